@@ -13,7 +13,7 @@ use Rattle.atspi_names.proofs.Maps.{equal_of_tie}
 use Rattle.atspi_match.specs.declared.routing.closing.Why.{Why}
 use Rattle.atspi_match.specs.declared.routing.closing.Why.TheVariants.{Quota}
 use Rattle.atspi_match.specs.routing.Steps.{Move, says, delivers, closes}
-use Rattle.atspi_match.specs.routing.Queues.{Waiting, or_nothing, queue_of, is_due, doomed, queued, moved, without_queue}
+use Rattle.atspi_match.specs.routing.Queues.{Waiting, or_nothing, queue_of, is_due, doomed, queued, moved, without_queue, told_length}
 
 differ : (conn c : ℕ) → c ≢ conn → (c == conn) ≡ false
 differ conn c other = by (c == conn) refl
@@ -82,16 +82,16 @@ module _ (conn c : ℕ) (other : c ≢ conn) where
   queued_else quota w bytes =
       let v = without_queue w conn in
       let put : Bool → List ℕ → Waiting =
-      λ b had. cond b v (cond (nat_lt quota (length had + length bytes)) (doomed v c (Quota (length had) (length bytes))) (record v { queues = finmap.insert v.queues c (had ++ bytes) })) in
+      λ b had. cond b v (cond (nat_lt quota (length had + length bytes)) (doomed v c (Quota (length had) (told_length bytes))) (record v { queues = finmap.insert v.queues c (had ++ bytes) })) in
       ap (λ b. put b (queue_of v.queues c)) (due_else w.due) ∙ ap (put (is_due c w.due)) (queue_else w.queues)
       ∙ by (is_due c w.due) (nat_lt quota (length (queue_of w.queues c) + length bytes))
     where
       by : (a b : Bool)
-          → cond a (without_queue w conn) (cond b (doomed (without_queue w conn) c (Quota (length (queue_of w.queues c)) (length bytes)))
+          → cond a (without_queue w conn) (cond b (doomed (without_queue w conn) c (Quota (length (queue_of w.queues c)) (told_length bytes)))
           (record (without_queue w conn) { queues = finmap.insert (without_queue w conn).queues c (queue_of w.queues c ++ bytes) }))
-          ≡ without_queue (cond a w (cond b (doomed w c (Quota (length (queue_of w.queues c)) (length bytes))) (record w { queues = finmap.insert w.queues c (queue_of w.queues c ++ bytes) }))) conn
+          ≡ without_queue (cond a w (cond b (doomed w c (Quota (length (queue_of w.queues c)) (told_length bytes))) (record w { queues = finmap.insert w.queues c (queue_of w.queues c ++ bytes) }))) conn
       by true b = refl
-      by false true = doomed_else w (Quota (length (queue_of w.queues c)) (length bytes))
+      by false true = doomed_else w (Quota (length (queue_of w.queues c)) (told_length bytes))
       by false false = ap (λ (m : FinMap nat_cmp (List ℕ)). record { queues = m; due = (without_queue w conn).due }) (insert_else w.queues (queue_of w.queues c ++ bytes))
 
 -- a move that gives the connection nothing

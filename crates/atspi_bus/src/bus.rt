@@ -1,6 +1,7 @@
 //! A bus as its callers see it.
 
-ghost use Rattle.std.specs.Prelude.{◌≡◌, ◌+◌, ◌<◌, ◌≤◌, ◌↔◌, ◌++◌, ℕ, List, [], length, map, drop, All, Option, IfNone};
+ghost use Rattle.std.specs.Prelude.{◌≡◌, ◌+◌, ◌<◌, ◌≤◌, ◌↔◌, ◌++◌, ℕ, min, List, [], length, map, drop, All, Option};
+ghost use Rattle.std.specs.Prelude.{IfNone};
 ghost use Rattle.std.specs.Prelude.{IfOk, IsErrOf, OnOk, OnErr, option_to_list};
 ghost use Rattle.atspi_message.specs.Envelope.{envelope_of};
 ghost use Rattle.atspi_message.specs.Rules.{MeetsRules};
@@ -10,13 +11,12 @@ ghost use Rattle.atspi_match.specs.routing.Laws.{IsWithinQuota};
 ghost use Rattle.atspi_match.specs.routing.Queues.{queue_of, empty_bus, joins, takes, leaves};
 ghost use Rattle.atspi_bus_queues.specs.Change.{with_queue};
 ghost use Rattle.atspi_bus_steps.specs.InnerBus.{state_of};
-ghost use Rattle.atspi_bus_steps.specs.Limits.{IsTooBig, SaysTooMuch};
 ghost use Rattle.atspi_bus_steps.specs.Sound.{IsSound};
 ghost use Rattle.atspi_bus_steps.specs.Spoken.{IsRuleTaken};
 ghost use Rattle.atspi_bus.specs.Exclusive.{IsExclusive};
 
 use crate::whole::{leave_whole, take_whole};
-use atspi_bus_steps::{BusFault, Inner};
+use atspi_bus_steps::{BusFault, Inner, JoinFault};
 use atspi_match::routing::Closing;
 use atspi_message::Message;
 use atspi_message_in_place::MessageRef;
@@ -38,9 +38,9 @@ pub struct Bus {
 impl Bus {
     ghost use Rattle.atspi_bus.specs.View.{bus_of, given_of};
 
-    /// A bus with this quota, to which nobody has joined.
+    /// A bus with this quota, to which nobody has joined. A quota of more than 67,108,864 bytes counts as that.
     pub fn new(alloc: Global, quota: u32) -> Bus
-        ensures bus { bus_of result ≡ empty_bus quota }
+        ensures bus { bus_of result ≡ empty_bus (min quota 67108864) }
         ensures given { given_of result ≡ 0 }
     {
         Bus {
@@ -51,17 +51,17 @@ impl Bus {
 
     /// A connection joins: its number is that of those which joined before. `Full` exactly where 4,294,967,296 have
     /// joined; after a fault all is as before.
-    pub fn join(&mut self) -> Result<u32, BusFault>
+    pub fn join(&mut self) -> Result<u32, JoinFault>
         ensures number { IfOk result
             (λ conn. (conn ≡ given_of self.old) × (given_of self.new ≡ given_of self.old + 1)) }
         ensures joined { IfOk result (λ conn. bus_of self.new ≡ joins (bus_of self.old) conn) }
         ensures within { IsWithinQuota (bus_of self.new) }
-        ensures full { IsErrOf result BusFault.Full ↔ (given_of self.old ≡ 4294967296) }
+        ensures full { IsErrOf result JoinFault.Full ↔ (given_of self.old ≡ 4294967296) }
         ensures err { OnErr result ((bus_of self.new ≡ bus_of self.old) × (given_of self.new ≡ given_of self.old)) }
     {
         if self.given > u64::from(u32::MAX) {
             self.inner.stays_within();
-            return Err(BusFault::Full);
+            return Err(JoinFault::Full);
         }
         let conn = self.given as u32;
         let joined = self.inner.join_behind(conn);
@@ -77,8 +77,8 @@ impl Bus {
 
     /// The bus takes a message of a connection, which lies in bytes: what it does is in `docs/ROUTING.md`. `Spent` only
     /// where the bus's own messages for this one would pass the serial 4,294,967,295, and no answer but a fault there.
-    /// `Big` only where this message, with its sender, or one that the bus says for it passes the limits of the wire.
-    /// After a fault all is as before.
+    /// After a fault all is as before. A message that is too long for the wire with its sender, and a list of names
+    /// that is, close their receivers.
     ///
     /// A message that is passed on, and one that the bus answers itself, costs what it brings alone, where each
     /// receiver of what goes out has room for it; ReleaseName, and RequestName of a name that somebody has, cost a copy
@@ -92,10 +92,6 @@ impl Bus {
         ensures spent { IsErrOf result BusFault.Spent
             → (rule : Option (List Condition)) × IsRuleTaken (bus_of self.old).state conn (envelope_at m.now) rule
             × (4294967296 < (takes (bus_of self.old) conn (envelope_at m.now) rule).state.next) }
-        ensures big { IsErrOf result BusFault.Big
-            → (rule : Option (List Condition)) × IsRuleTaken (bus_of self.old).state conn (envelope_at m.now) rule
-            × IsTooBig (bus_of self.old) conn (envelope_at m.now)
-            (takes (bus_of self.old) conn (envelope_at m.now) rule) }
         ensures within { IsWithinQuota (bus_of self.new) }
         ensures given { given_of self.new ≡ given_of self.old }
         ensures err { OnErr result (bus_of self.new ≡ bus_of self.old) }
@@ -106,14 +102,13 @@ impl Bus {
     }
 
     /// A connection leaves by itself. `Spent` only where the bus's own messages would pass the serial 4,294,967,295,
-    /// and no answer but a fault there; `Big` only where one of them passes the limits of the wire. After a fault all
-    /// is as before. It costs what is told, and a look at each that has joined, each rule and each open call, where
-    /// each receiver has room for what is told, and else a copy of what the bus knows and of what waits in it.
+    /// and no answer but a fault there. After a fault all is as before. It costs what is told, and a look at each that
+    /// has joined, each rule and each open call, where each receiver has room for what is told, and else a copy of what
+    /// the bus knows and of what waits in it.
     pub fn leave(&mut self, conn: u32) -> Result<(), BusFault>
         ensures ok { OnOk result (bus_of self.new ≡ leaves (bus_of self.old) conn) }
         ensures serial { OnOk result ((bus_of self.new).state.next ≤ 4294967296) }
         ensures spent { IsErrOf result BusFault.Spent → 4294967296 < (leaves (bus_of self.old) conn).state.next }
-        ensures big { IsErrOf result BusFault.Big → SaysTooMuch (bus_of self.old) (leaves (bus_of self.old) conn) }
         ensures within { IsWithinQuota (bus_of self.new) }
         ensures given { given_of self.new ≡ given_of self.old }
         ensures err { OnErr result (bus_of self.new ≡ bus_of self.old) }

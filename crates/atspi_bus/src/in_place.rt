@@ -1,6 +1,7 @@
 //! A message of the bus's own that is said in place: it goes to all of its receivers, or to none.
 
-ghost use Rattle.std.specs.Prelude.{◌≡◌, ◌<◌, ◌^◌, length, map, All, IfOk, OnErr, IsErrOf, MatchBool, MatchOption};
+ghost use Rattle.std.specs.Prelude.{◌≡◌, ◌<◌, ◌^◌, length, map, All, IfOk, IfSome, OnErr, IsErrOf, MatchBool};
+ghost use Rattle.std.specs.Prelude.{MatchOption};
 ghost use Rattle.std.specs.VecDeque.{deque_len, deque_capacity};
 ghost use Rattle.atspi_message.specs.Bytes.{written};
 ghost use Rattle.atspi_message.specs.Envelope.{Envelope, envelope_of};
@@ -16,7 +17,7 @@ ghost use Rattle.atspi_bus.specs.inner.Said.{IsHanded, IsSaid};
 
 use atspi_base::Bytes;
 use atspi_bus_queues::Queues;
-use atspi_bus_steps::{BusFault, Inner, receivers_of_own, write_own};
+use atspi_bus_steps::{BusFault, Inner, Spelled, receivers_of_own, write_own};
 use atspi_message::Message;
 use std::collections::VecDeque;
 
@@ -27,22 +28,24 @@ pub struct Said {
     pub receivers: Vec<u32>,
 }
 
-/// A message with its number as it is written, and who receives it.
-fn addressed(inner: &Inner, message: &Message) -> Result<Said, BusFault>
+/// A message with its number as it is written, and who receives it; none where it is too long for the wire.
+fn addressed(inner: &Inner, message: &Message) -> Result<Option<Said>, BusFault>
     requires ready { IsReady (state_of inner.now) }
     requires meets { MeetsRules (envelope_of message.now) }
-    ensures bytes { IfOk result (λ said. said.bytes ≡ written (envelope_of message.now)) }
-    ensures short { IfOk result (λ said. length said.bytes < 2 ^ 32) }
-    ensures receivers { IfOk result
-        (λ said. said.receivers.items ≡ routing.receivers (state_of inner.now) (envelope_of message.now)) }
+    ensures bytes { IfOk result (λ found. IfSome found (λ said. said.bytes ≡ written (envelope_of message.now))) }
+    ensures short { IfOk result (λ found. IfSome found (λ said. length said.bytes < 2 ^ 32)) }
+    ensures receivers { IfOk result (λ found. IfSome found
+        (λ said. said.receivers.items ≡ routing.receivers (state_of inner.now) (envelope_of message.now))) }
     ensures spent { IsErrOf result BusFault.Spent → ⊥ }
 {
     let alloc = inner.alloc;
-    let bytes = write_own(alloc, message)?;
+    let Spelled::Bytes(bytes) = write_own(alloc, message)? else {
+        return Ok(None);
+    };
     let (names, rules) = (&inner.names, &inner.rules);
     let lent = bytes.as_slice();
     let receivers = receivers_of_own(alloc, &inner.joined, names, rules, message, lent)?;
-    Ok(Said { bytes, receivers })
+    Ok(Some(Said { bytes, receivers }))
 }
 
 /// Puts a message with its number behind what waits for each of its receivers, where each has room for it, and makes
@@ -58,8 +61,10 @@ fn hand_each(inner: &mut Inner, message: &Message) -> Result<Option<Said>, BusFa
     ensures spent { IsErrOf result BusFault.Spent → ⊥ }
     ensures err { OnErr result (inner_of inner.new ≡ inner_of inner.old) }
 {
-    let said = addressed(inner, message)?;
     inner.own.reserve(1)?;
+    let Some(said) = addressed(inner, message)? else {
+        return Ok(None);
+    };
     let bytes = said.bytes.as_slice();
     let went = inner.queues.push_each(&said.receivers, bytes)?;
     if !went {

@@ -10,5 +10,5 @@ mod leaving;
 mod renaming;
 mod whole;
 
-pub use atspi_bus_steps::BusFault;
+pub use atspi_bus_steps::{BusFault, JoinFault};
 pub use bus::Bus;

@@ -6,7 +6,6 @@ ghost use Rattle.atspi_message_in_place.specs.View.{envelope_at};
 ghost use Rattle.atspi_match.specs.declared.condition.Condition.{Condition};
 ghost use Rattle.atspi_match.specs.routing.Queues.{takes, leaves};
 ghost use Rattle.atspi_bus_steps.specs.InnerBus.{inner_of, state_of};
-ghost use Rattle.atspi_bus_steps.specs.Limits.{IsTooBig, SaysTooMuch};
 ghost use Rattle.atspi_bus_steps.specs.Sound.{IsSound};
 ghost use Rattle.atspi_bus_steps.specs.Spoken.{IsRuleTaken};
 ghost use Rattle.atspi_bus.specs.Exclusive.{IsExclusive};
@@ -28,10 +27,6 @@ fn take_on_copy(inner: &mut Inner, conn: u32, m: &MessageRef) -> Result<(), BusF
     ensures spent { IsErrOf result BusFault.Spent
         → (rule : Option (List Condition)) × IsRuleTaken (state_of inner.old) conn (envelope_at m.now) rule
         × (4294967296 < (takes (inner_of inner.old) conn (envelope_at m.now) rule).state.next) }
-    ensures big { IsErrOf result BusFault.Big
-        → (rule : Option (List Condition)) × IsRuleTaken (state_of inner.old) conn (envelope_at m.now) rule
-        × IsTooBig (inner_of inner.old) conn (envelope_at m.now)
-        (takes (inner_of inner.old) conn (envelope_at m.now) rule) }
     ensures err { OnErr result (inner_of inner.new ≡ inner_of inner.old) }
 {
     let mut after = inner.copy()?;
@@ -64,8 +59,7 @@ fn take_in_place(inner: &mut Inner, conn: u32, m: &MessageRef) -> Result<bool, B
     }
 }
 
-/// A bus takes a message: in place where it can, and on a copy of itself where it cannot, also where a message is then
-/// found to pass the limits of the wire.
+/// A bus takes a message: in place where it can, and on a copy of itself where it cannot.
 pub fn take_whole(inner: &mut Inner, conn: u32, m: &MessageRef) -> Result<(), BusFault>
     requires sound { IsSound (state_of inner.old) }
     requires meets { MeetsRules (envelope_at m.now) }
@@ -76,17 +70,11 @@ pub fn take_whole(inner: &mut Inner, conn: u32, m: &MessageRef) -> Result<(), Bu
     ensures spent { IsErrOf result BusFault.Spent
         → (rule : Option (List Condition)) × IsRuleTaken (state_of inner.old) conn (envelope_at m.now) rule
         × (4294967296 < (takes (inner_of inner.old) conn (envelope_at m.now) rule).state.next) }
-    ensures big { IsErrOf result BusFault.Big
-        → (rule : Option (List Condition)) × IsRuleTaken (state_of inner.old) conn (envelope_at m.now) rule
-        × IsTooBig (inner_of inner.old) conn (envelope_at m.now)
-        (takes (inner_of inner.old) conn (envelope_at m.now) rule) }
     ensures err { OnErr result (inner_of inner.new ≡ inner_of inner.old) }
 {
     match take_in_place(inner, conn, m) {
         Ok(true) => Ok(()),
         Ok(false) => take_on_copy(inner, conn, m),
-        // why that is so is told on the copy
-        Err(BusFault::Big) => take_on_copy(inner, conn, m),
         Err(fault) => Err(fault),
     }
 }
@@ -97,7 +85,6 @@ fn leave_on_copy(inner: &mut Inner, conn: u32) -> Result<(), BusFault>
     ensures ok { OnOk result (inner_of inner.new ≡ leaves (inner_of inner.old) conn) }
     ensures sound { IsSound (state_of inner.new) }
     ensures spent { IsErrOf result BusFault.Spent → 4294967296 < (leaves (inner_of inner.old) conn).state.next }
-    ensures big { IsErrOf result BusFault.Big → SaysTooMuch (inner_of inner.old) (leaves (inner_of inner.old) conn) }
     ensures err { OnErr result (inner_of inner.new ≡ inner_of inner.old) }
 {
     let mut after = inner.copy()?;
@@ -117,13 +104,11 @@ pub fn leave_whole(inner: &mut Inner, conn: u32) -> Result<(), BusFault>
     ensures ok { OnOk result (inner_of inner.new ≡ leaves (inner_of inner.old) conn) }
     ensures sound { IsSound (state_of inner.new) }
     ensures spent { IsErrOf result BusFault.Spent → 4294967296 < (leaves (inner_of inner.old) conn).state.next }
-    ensures big { IsErrOf result BusFault.Big → SaysTooMuch (inner_of inner.old) (leaves (inner_of inner.old) conn) }
     ensures err { OnErr result (inner_of inner.new ≡ inner_of inner.old) }
 {
     match leave_in_place(inner, conn) {
         Ok(true) => Ok(()),
         Ok(false) => leave_on_copy(inner, conn),
-        Err(BusFault::Big) => leave_on_copy(inner, conn),
         Err(fault) => Err(fault),
     }
 }

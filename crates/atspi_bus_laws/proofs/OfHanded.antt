@@ -1,5 +1,3 @@
-pub mod Values
-pub mod Short
 pub mod Lists
 pub mod Names
 pub mod Own

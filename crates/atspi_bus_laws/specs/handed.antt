@@ -1,5 +1,4 @@
-pub mod Sits
-pub mod Spellable
 pub mod Known
 pub mod Handing
+pub mod Sizes
 pub mod Naming

@@ -1,9 +1,9 @@
 -- Queues as chains of one pool: what the queues are after one chain changed, and that each connection has one still.
-use Rattle.std.proofs.Common.{◌≡◌, ◌≢◌, ℕ, suc, ◌+◌, ◌-◌, ◌%◌, ◌⊎◌, ◌<◌, ◌≤◌, ◌^◌, Bool, true, false, cond, eqb, List, [], ◌∷◌, ◌++◌, length, map, take, drop, set, Option, None, Some, is_some, refl, sym, ap, ◌∙◌, subst, inl, inr, arith}
+use Rattle.std.proofs.Common.{◌≡◌, ◌≢◌, ℕ, ◌+◌, ◌-◌, ◌%◌, ◌⊎◌, ◌<◌, ◌≤◌, ◌^◌, Bool, true, false, cond, eqb, List, [], ◌∷◌, ◌++◌, length, map, take, drop, set, Option, None, Some, is_some, refl, sym, ap, ◌∙◌, subst, inl, inr, arith}
 use Rattle.std.specs.Prelude.{IsSome}
 use Rattle.std.specs.Option.{option_map}
-use Rattle.std.specs.Ordering.{nat_cmp, eq_by_cmp}
-use Rattle.std.specs.Cmp.{nat_cmp_total, eq_by_cmp_equiv}
+use Rattle.std.specs.Ordering.{nat_cmp}
+use Rattle.std.specs.Cmp.{nat_cmp_total}
 use Rattle.std.specs.Map.{keys_of, lookup}
 use Rattle.std.specs.List.Sorted.{IsStrictlySortedBy}
 use Rattle.std.specs.BTreeMap.{is_at}
@@ -11,17 +11,17 @@ use Rattle.std.specs.FinMap as finmap
 use Rattle.std.specs.FinMap.{FinMap, find, get-from_entries, get-insert, get-remove, same_map, nat_cmp-IsAntisymmetric}
 use Rattle.std.proofs.lemmas.Bool.{cases_eq}
 use Rattle.std.proofs.lemmas.Bool.Decides.{nat_tests}
-use Rattle.std.proofs.lemmas.List.{length-append, length-drop, take-append-drop, get_or-set_same, get_or-set_other, get_or_past}
+use Rattle.std.proofs.lemmas.List.{take-append-drop, get_or-set_same, get_or-set_other, get_or_past}
 use Rattle.std.proofs.lemmas.List.Sums.{sum_by-set}
 use Rattle.std.proofs.lemmas.Bool.{cases_lt}
 use Rattle.std.proofs.lemmas.Map.Made.{lookup-map_values}
-use Rattle.atspi_pool.specs.Chains.{Chain, empty_chain, front_of, popped_by, cut_by, pushed}
-use Rattle.atspi_pool.specs.Store.{Store, chain_at, held, with_chain}
+use Rattle.atspi_pool.specs.Chains.{Chain, empty_chain, front_of, popped_by, cut_by}
+use Rattle.atspi_pool.specs.Store.{Store, chain_at, held}
 use Rattle.atspi_pool.specs.Pool.{in_use, SetsChain}
 use Rattle.atspi_match.specs.routing.Queues.{or_nothing, queue_of}
 use Rattle.atspi_bus_queues.specs.Change.{with_queue}
 use Rattle.atspi_bus_queues.specs.QueueMap.{chain_of, bytes_in, queues_of, HasChains}
-use Rattle.atspi_bus_queues.proofs.Keys.{ties, tied, ties_not, fewer, length-keys}
+use Rattle.atspi_bus_queues.proofs.Keys.{ties, ties_not, fewer, length-keys}
 
 some_is : {X : Type 0} {o : Option X} {x : X} → o ≡ Some x → IsSome o
 some_is e = ap is_some e

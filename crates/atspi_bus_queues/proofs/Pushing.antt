@@ -1,16 +1,16 @@
 -- Bytes that go to several connections, and are taken back.
-use Rattle.std.proofs.Common.{◌≡◌, ℕ, suc, ◌+◌, ◌-◌, ◌<◌, ◌≤◌, Bool, true, false, cond, List, [], ◌∷◌, ◌++◌, length, take, get_or, Option, None, Some, is_some, refl, sym, ap, ◌∙◌, subst, inl, inr, arith}
+use Rattle.std.proofs.Common.{◌≡◌, ℕ, ◌+◌, ◌-◌, ◌≤◌, false, cond, List, [], ◌∷◌, ◌++◌, length, take, Option, None, Some, refl, sym, ap, ◌∙◌, subst, arith}
 use Rattle.std.specs.Prelude.{nat_lt, IsSome}
 use Rattle.std.specs.Ordering.{nat_cmp}
 use Rattle.std.specs.FinMap as finmap
 use Rattle.std.specs.FinMap.{FinMap}
 use Rattle.std.proofs.Math.Seq.{take-append_seam, take-length}
 use Rattle.std.proofs.lemmas.Bool.Decides.{nat_tests}
-use Rattle.std.proofs.lemmas.List.{length-append, take_more}
+use Rattle.std.proofs.lemmas.List.{length-append}
 use Rattle.std.proofs.lemmas.List.Sums.{fold-append}
 use Rattle.atspi_match.specs.declared.routing.closing.Why.{Why}
 use Rattle.atspi_match.specs.declared.routing.closing.Why.TheVariants.{Quota}
-use Rattle.atspi_match.specs.routing.Queues.{Waiting, queue_of, queued, doomed, or_nothing}
+use Rattle.atspi_match.specs.routing.Queues.{Waiting, queue_of, queued, doomed, or_nothing, told_length}
 use Rattle.atspi_bus_queues.specs.Change.{with_queue}
 use Rattle.atspi_bus_queues.specs.Held.{Held}
 use Rattle.atspi_bus_queues.specs.Each.{queued_each, HasRoom, HaveRoom, WentToEach}
@@ -32,7 +32,7 @@ queued-room quota w conn bytes h = by w.queues w.due h.nobody h.room
   where
     by : (queues : FinMap nat_cmp (List ℕ)) (due : List (ℕ × Why)) → due ≡ [] → length (queue_of queues conn) + length bytes ≤ quota
         → queued quota (record { queues = queues; due = due }) conn bytes ≡ longer (record { queues = queues; due = due }) conn bytes
-    by queues [] e le = ap (λ b. cond b (doomed (record { queues = queues; due = [] }) conn (Quota (length (queue_of queues conn)) (length bytes))) (longer (record { queues = queues; due = [] }) conn bytes)) (not_past quota _ le)
+    by queues [] e le = ap (λ b. cond b (doomed (record { queues = queues; due = [] }) conn (Quota (length (queue_of queues conn)) (told_length bytes))) (longer (record { queues = queues; due = [] }) conn bytes)) (not_past quota _ le)
     by queues (d ∷ due) e le = absurd cc
 
 pub due-same : (quota : ℕ) (w : Waiting) (bytes conns : List ℕ) → HaveRoom quota w bytes conns → (queued_each quota w bytes conns).due ≡ w.due

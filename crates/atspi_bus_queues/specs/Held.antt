@@ -1,16 +1,22 @@
 -- The queues of a bus with their quota.
-use Rattle.std.specs.Prelude.{ℕ, List, [], refl}
+use Rattle.std.specs.Prelude.{◌≤◌, ℕ, List, [], refl}
 use Rattle.std.specs.Coded.{Coded, code_by, coded×, coded_ℕ, coded_list}
 use Rattle.std.specs.FinMap as finmap
 use Rattle.std.specs.FinMap.{FinMap}
 use Rattle.std.specs.Ordering.{nat_cmp}
 use Rattle.atspi_match.specs.contracts.routing.closing.Why as why
 use Rattle.atspi_match.specs.declared.routing.closing.Why.{Why}
+use Rattle.atspi_match.specs.routing.Laws.{AreWithin}
 use Rattle.atspi_match.specs.routing.Queues.{Waiting}
 
 pub record Held : Type 0 where
   pub quota : ℕ
   pub waiting : Waiting
+
+-- what holds of queues at any time: their quota is at most 64 MiB, and each is within it
+pub record AreHeld (quota : ℕ) (queues : FinMap nat_cmp (List ℕ)) : Type 0 where
+  pub few : quota ≤ 67108864
+  pub within : AreWithin quota queues
 
 -- nothing waits, and nobody is to be closed
 abbrev pub no_queues : Waiting

@@ -1,10 +1,9 @@
 -- The queue of each connection as a chain of one pool.
-use Rattle.std.specs.Prelude.{◌≡◌, ℕ, ◌^◌, ◌<◌, List, map, length, Option, None, Some, IsSome}
+use Rattle.std.specs.Prelude.{◌≡◌, ℕ, ◌^◌, ◌<◌, List, map, length, Option, Some, IsSome}
 use Rattle.std.specs.Ordering.{nat_cmp}
 use Rattle.std.specs.Map.{keys_of, lookup}
 use Rattle.std.specs.List.Sorted.{IsStrictlySortedBy}
 use Rattle.std.specs.BTreeMap.{is_at}
-use Rattle.std.specs.FinMap as finmap
 use Rattle.std.specs.FinMap.{FinMap, from_entries}
 use Rattle.atspi_pool.specs.Store.{Store, chain_at, held}
 use Rattle.atspi_pool.specs.Pool.{in_use}

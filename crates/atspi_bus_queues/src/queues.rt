@@ -1,6 +1,6 @@
 //! The queues of a bus with their quota, and who is to be closed.
 
-ghost use Rattle.std.specs.Prelude.{◌≡◌, ◌<◌, ◌≤◌, ◌^◌, ◌↔◌, ◌-◌, ℕ, List, [], ◌∷◌, ◌++◌, length, drop, take};
+ghost use Rattle.std.specs.Prelude.{◌≡◌, ◌<◌, ◌≤◌, ◌^◌, ◌↔◌, ◌-◌, ℕ, min, List, [], ◌∷◌, ◌++◌, length, drop, take};
 ghost use Rattle.std.specs.Prelude.{MatchBool, MatchOption, IsTrue, IfOk, OnOk, OnErr};
 ghost use Rattle.std.specs.FinMap as finmap;
 ghost use Rattle.atspi_match.specs.declared.routing.closing.Why.{Why};
@@ -17,6 +17,9 @@ use atspi_match::routing::Why;
 use std::alloc::Global;
 use std::marker::Model;
 
+/// The most that a quota may be: whatever is too long for the wire passes it.
+const MOST: u32 = 67_108_864;
+
 /// What waits for each connection, at most a quota of bytes, and the connections that are to be closed. A connection is
 /// known by its number, and one without a queue has nothing waiting.
 #[derive(Drop)]
@@ -27,8 +30,7 @@ pub struct Queues {
 }
 
 impl Model for Queues {
-    ghost use Rattle.atspi_bus_queues.specs.Held.{Held, held_code};
-    ghost use Rattle.atspi_match.specs.routing.Laws.{AreWithin};
+    ghost use Rattle.atspi_bus_queues.specs.Held.{AreHeld, Held, held_code};
 
     ghost Value = { Held };
 
@@ -36,16 +38,16 @@ impl Model for Queues {
 
     ghost view = { λ q. record { quota = q.quota; waiting = record { queues = q.queues; due = q.due } } };
 
-    ghost invariant = { λ q. AreWithin q.quota q.queues };
+    ghost invariant = { λ q. AreHeld q.quota q.queues };
 }
 
 impl Queues {
-    /// No queue, and nobody is to be closed.
+    /// No queue, and nobody is to be closed. A quota of more than 67,108,864 bytes counts as that.
     pub fn new(alloc: Global, quota: u32) -> Queues
-        ensures { result ≡ record { quota = quota; waiting = no_queues } }
+        ensures { result ≡ record { quota = min quota 67108864; waiting = no_queues } }
     {
         Queues {
-            quota,
+            quota: quota.min(MOST),
             queues: QueueMap::new(alloc),
             due: DueList::new(alloc),
         }
@@ -155,9 +157,10 @@ impl Queues {
         self.queues.len(conn)
     }
 
-    /// A law: each queue is at most the quota.
+    /// A law: each queue is at most the quota, and the quota at most 67,108,864 bytes.
     pub fn stay_within(&self)
-        ensures { AreWithin self.now.quota self.now.waiting.queues }
+        ensures within { AreWithin self.now.quota self.now.waiting.queues }
+        ensures few { self.now.quota ≤ 67108864 }
     {
         let _ = &self.quota;
     }

@@ -1,5 +1,4 @@
 pub mod Asking
-pub mod Appended
 pub mod Said
 pub mod Settling
 pub mod Sayables
@@ -11,4 +10,3 @@ pub mod Greetings
 pub mod Taken
 pub mod Ends
 pub mod InPlace
-pub mod TooBig

@@ -13,10 +13,8 @@ use Rattle.atspi_match.specs.routing.Steps.{Move, says, delivers, closes, handed
 use Rattle.atspi_match.specs.routing.Queues.{Bus, Waiting, moved, own_of, stepped}
 use Rattle.atspi_bus_queues.specs.Held.{Held}
 use Rattle.atspi_bus_steps.specs.inner.Handing.{handed_out, queued_each}
-use Rattle.atspi_bus_steps.specs.Limits.{PassesLimits, SaysTooMuch}
 use Rattle.atspi_bus_steps.specs.Sayable.{MaySay}
 use Rattle.atspi_bus_steps.specs.Sound.{IsReady}
-use Rattle.atspi_bus_steps.proofs.Appended.{Appends, appends-none, appends-trans, appends-step, too_much-later, too_much-before}
 use Rattle.atspi_bus_steps.proofs.Asking.{receivers-parts}
 
 pub own_of-append : (a b : List Move) → own_of (a ++ b) ≡ own_of a ++ own_of b
@@ -54,14 +52,6 @@ one_said b e =
     let own : d ∷ [] ≡ own_of moves = ap (λ (l : List Envelope). d ∷ l) (sym (own_of-handed b.state d)) in
     ap (λ (l : List Envelope). record b { state = record b.state { next = b.state.next + 1 }; waiting = fold (moved b.quota) b.waiting moves; own = b.own ++ l }) own
     ∙ ap (λ (ms : List Move). record b { state = record b.state { next = b.state.next + 1 }; waiting = fold (moved b.quota) b.waiting ms; own = b.own ++ own_of ms }) same
-
--- one said that passes the limits
-pub one_too_much : (b : Bus) (e : Envelope) → PassesLimits (record e { serial = b.state.next }) → SaysTooMuch b (stepped b (speaks b.state (e ∷ [])))
-one_too_much b e passes =
-    let d = record e { serial = b.state.next } in
-    let moves : List Move = says d ∷ handed b.state d in
-    let own : own_of moves ≡ d ∷ [] = ap (λ (l : List Envelope). d ∷ l) (own_of-handed b.state d) in
-    ([], d, [], ap (λ (l : List Envelope). b.own ++ l) (ap own_of (append-nil moves) ∙ own), passes)
 
 later : (n k : ℕ) → (n + 1) + k ≡ n + suc k
 later n k = omega arith
@@ -112,10 +102,9 @@ pub record IsSaying (first b : Bus) (all rest : List Envelope) : Type 0 where
   pub ready : IsReady b.state
   pub count : b.state.next + length rest ≡ first.state.next + length all
   pub sayable : All MaySay rest
-  pub grown : Appends first b
 
 pub saying-start : (b : Bus) (all : List Envelope) → IsReady b.state → All MaySay all → IsSaying b b all all
-saying-start b all ready sayable = record { same = refl; ready = ready; count = refl; sayable = sayable; grown = appends-none b }
+saying-start b all ready sayable = record { same = refl; ready = ready; count = refl; sayable = sayable }
 
 pub saying-next : (first b next : Bus) (all rest : List Envelope) (e : Envelope) (left : List Envelope) → IsSaying first b all rest → rest ≡ e ∷ left
     → next ≡ stepped b (speaks b.state (e ∷ [])) → IsReady next.state → IsSaying first next all left
@@ -128,7 +117,6 @@ saying-next first b next all rest e left was is new ready = record {
       let count = was.count in
       omega arith;
   sayable = All-tail MaySay e left (subst (All MaySay) is was.sayable);
-  grown = appends-trans first b next was.grown (subst (λ (n : Bus). Appends b n) (sym new) (appends-step b (speaks b.state (e ∷ []))));
 }
 
 pub saying-first : (first b : Bus) (all rest : List Envelope) (e : Envelope) (left : List Envelope) → IsSaying first b all rest → rest ≡ e ∷ left → MaySay e
@@ -140,15 +128,6 @@ saying-spent first b all rest e left was is over =
     let len : length rest ≡ length left + 1 = ap length is ∙ sym (add-one (length left)) in
     let count = was.count in
     omega arith
-
-pub saying-big : (first b : Bus) (all rest : List Envelope) (e : Envelope) (left : List Envelope) → IsSaying first b all rest → rest ≡ e ∷ left
-    → SaysTooMuch b (stepped b (speaks b.state (e ∷ []))) → SaysTooMuch first (stepped first (speaks first.state all))
-saying-big first b all rest e left was is big =
-    let one = stepped b (speaks b.state (e ∷ [])) in
-    let behind = stepped one (speaks one.state left) in
-    let whole : behind ≡ stepped first (speaks first.state all) = more_said b e left ∙ ap (λ (l : List Envelope). stepped b (speaks b.state l)) (sym is) ∙ was.same in
-    subst (λ (n : Bus). SaysTooMuch first n) whole
-    (too_much-later first one behind (too_much-before first b one was.grown big) (appends-step one (speaks one.state left)))
 
 pub saying-end : (first b : Bus) (all rest : List Envelope) → IsSaying first b all rest → rest ≡ [] → b ≡ stepped first (speaks first.state all)
 saying-end first b all rest was none = sym (none_said b) ∙ ap (λ (l : List Envelope). stepped b (speaks b.state l)) (sym none) ∙ was.same

@@ -1,9 +1,7 @@
 -- Closings, one after the other.
-use Rattle.std.proofs.Common.{◌≡◌, ℕ, zero, suc, ◌+◌, ◌<◌, ◌≤◌, List, [], ◌∷◌, refl, sym, ap, ◌∙◌, subst, arith}
+use Rattle.std.proofs.Common.{◌≡◌, ℕ, zero, suc, ◌+◌, ◌<◌, ◌≤◌, List, [], ◌∷◌, refl, sym, ap, ◌∙◌, arith}
 use Rattle.atspi_match.specs.declared.routing.closing.Why.{Why}
 use Rattle.atspi_match.specs.routing.Queues.{Bus, settled, one_closed, closed}
-use Rattle.atspi_bus_steps.specs.Limits.{SaysTooMuch}
-use Rattle.atspi_bus_steps.proofs.Appended.{Appends, appends-none, appends-trans, appends-closed, appends-settled, too_much-later, too_much-before}
 
 pub settled_none : (k : ℕ) (b : Bus) → b.waiting.due ≡ [] → settled k b ≡ b
 settled_none zero b none = refl
@@ -32,21 +30,17 @@ pub record IsSettling (rounds done : ℕ) (first b : Bus) : Type 0 where
   pub left_ : ℕ
   pub count : left_ + done ≡ rounds
   pub same : settled left_ b ≡ settled rounds first
-  pub grown : Appends first b
 
 pub settling-start : (rounds : ℕ) (b : Bus) → IsSettling rounds 0 b b
-settling-start rounds b = record { left_ = rounds; count = omega arith; same = refl; grown = appends-none b }
+settling-start rounds b = record { left_ = rounds; count = omega arith; same = refl }
 
 pub settling-next : (rounds done : ℕ) (first b next : Bus) (due : ℕ × Why) (rest : List (ℕ × Why)) → done < rounds → IsSettling rounds done first b
     → b.waiting.due ≡ due ∷ rest → next ≡ closed b due.0 due.1 → IsSettling rounds (done + 1) first next
 settling-next rounds done first b next due rest lt was is new = by was.left_ was.count was.same
   where
-    grown : Appends first next
-    grown = appends-trans first b next was.grown (subst (λ (x : Bus). Appends b x) (sym new) (appends-closed b due.0 due.1))
-
     by : (k : ℕ) → k + done ≡ rounds → settled k b ≡ settled rounds first → IsSettling rounds (done + 1) first next
     by zero count same = absurd (omega arith)
-    by (suc k) count same = record { left_ = k; count = omega arith; same = ap (settled k) new ∙ sym (settled_first k b due rest is) ∙ same; grown = grown }
+    by (suc k) count same = record { left_ = k; count = omega arith; same = ap (settled k) new ∙ sym (settled_first k b due rest is) ∙ same }
 
 pub settling-spent : (rounds done : ℕ) (first b : Bus) (due : ℕ × Why) (rest : List (ℕ × Why)) → done < rounds → IsSettling rounds done first b
     → b.waiting.due ≡ due ∷ rest → 4294967296 < (closed b due.0 due.1).state.next → 4294967296 < (settled rounds first).state.next
@@ -58,19 +52,6 @@ settling-spent rounds done first b due rest lt was is over = by was.left_ was.co
         let e = ap (λ (x : Bus). x.state.next) (sym (settled_first k b due rest is) ∙ same) in
         let le = settled_rises k (closed b due.0 due.1) in
         omega arith
-
-pub settling-big : (rounds done : ℕ) (first b : Bus) (due : ℕ × Why) (rest : List (ℕ × Why)) → done < rounds → IsSettling rounds done first b
-    → b.waiting.due ≡ due ∷ rest → SaysTooMuch b (closed b due.0 due.1) → SaysTooMuch first (settled rounds first)
-settling-big rounds done first b due rest lt was is big = by was.left_ was.count was.same
-  where
-    next : Bus
-    next = closed b due.0 due.1
-
-    by : (k : ℕ) → k + done ≡ rounds → settled k b ≡ settled rounds first → SaysTooMuch first (settled rounds first)
-    by zero count same = absurd (omega arith)
-    by (suc k) count same =
-        subst (λ (x : Bus). SaysTooMuch first x) (sym (settled_first k b due rest is) ∙ same)
-        (too_much-later first next (settled k next) (too_much-before first b next was.grown big) (appends-settled k next))
 
 pub settling-none : (rounds done : ℕ) (first b : Bus) → IsSettling rounds done first b → b.waiting.due ≡ [] → b ≡ settled rounds first
 settling-none rounds done first b was none = sym (settled_none was.left_ b none) ∙ was.same

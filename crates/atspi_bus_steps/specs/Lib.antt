@@ -1,7 +1,7 @@
 pub mod inner
 pub mod InnerBus
 pub mod Sound
-pub mod Limits
+pub mod Spelled
 pub mod Sayable
 pub mod Spoken
 pub mod Greeting

@@ -11,7 +11,6 @@ ghost use Rattle.atspi_match.specs.routing.Members as members;
 ghost use Rattle.atspi_match.specs.routing.Steps as steps;
 ghost use Rattle.atspi_bus_answers.specs.Answered.{IsSpokenOf};
 ghost use Rattle.atspi_bus_steps.specs.InnerBus.{inner_of, state_of};
-ghost use Rattle.atspi_bus_steps.specs.Limits.{SaysTooMuch};
 ghost use Rattle.atspi_bus_steps.specs.Sound.{IsSound};
 ghost use Rattle.atspi_bus_steps.specs.Spoken.{IsRuleOf, answered_by};
 ghost use Rattle.atspi_bus_steps.specs.Greeting.{greeting};
@@ -56,9 +55,6 @@ impl Inner {
         ensures sound { OnOk result (IsSound (state_of self.new)) }
         ensures spent { IsErrOf result BusFault.Spent
             → 4294967296 < (steps.greets (state_of self.old) conn (envelope_at m.now)).state.next }
-        ensures big { IsErrOf result BusFault.Big
-            → SaysTooMuch (inner_of self.old)
-            (stepped (inner_of self.old) (steps.greets (state_of self.old) conn (envelope_at m.now))) }
     {
         let name = match self.names.hello(conn) {
             Ok(name) => name,
@@ -81,10 +77,6 @@ impl Inner {
         ensures spent { IsErrOf result BusFault.Spent
             → (rule : Option (List Condition)) × IsSpokenOf member (envelope_at m.now).body rule
             × (4294967296 < (answered_by member (state_of self.old) conn (envelope_at m.now) rule).state.next) }
-        ensures big { IsErrOf result BusFault.Big
-            → (rule : Option (List Condition)) × IsSpokenOf member (envelope_at m.now).body rule
-            × SaysTooMuch (inner_of self.old)
-            (stepped (inner_of self.old) (answered_by member (state_of self.old) conn (envelope_at m.now) rule)) }
     {
         let alloc = self.alloc;
         let mut told = Vec::new(alloc);
@@ -104,9 +96,6 @@ impl Inner {
         ensures spent { IsErrOf result BusFault.Spent
             → (rule : Option (List Condition)) × IsRuleOf (envelope_at m.now) rule
             × (4294967296 < (steps.called (state_of self.old) conn (envelope_at m.now) rule).state.next) }
-        ensures big { IsErrOf result BusFault.Big → (rule : Option (List Condition)) × IsRuleOf (envelope_at m.now) rule
-            × SaysTooMuch (inner_of self.old)
-            (stepped (inner_of self.old) (steps.called (state_of self.old) conn (envelope_at m.now) rule)) }
     {
         match member_of(m) {
             Ok(member) => self.answer(member, conn, m),

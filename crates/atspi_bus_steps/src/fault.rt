@@ -1,4 +1,4 @@
-//! Why a bus refused a call.
+//! Why a bus refused a call. Each kind of call has just the faults that may come of it.
 
 ghost use Rattle.std.specs.Prelude.{◌≡◌};
 ghost use Rattle.atspi_bus_steps.specs.declared.fault.BusFault.TheVariants as faults;
@@ -7,19 +7,22 @@ use atspi_base::NoMemory;
 use std::alloc::{AllocError, AllocFailed};
 use thiserror::Error;
 
-/// Why a bus refused a call.
+/// Why a connection could not join a bus.
 #[derive(Clone, Copy, Debug, PartialEq, Eq, Error)]
-pub enum BusFault {
-    /// All 4,294,967,296 numbers of connections were given.
+pub enum JoinFault {
+    /// No number is left that is above those of all connections that have joined.
     #[error("no number of a connection is left")]
     Full,
+    #[error("out of memory")]
+    NoMemory,
+}
+
+/// Why a bus did not take a message, or let a connection leave.
+#[derive(Clone, Copy, Debug, PartialEq, Eq, Error)]
+pub enum BusFault {
     /// The bus's own messages for the call would pass the serial 4,294,967,295.
     #[error("no serial is left for the bus's own messages")]
     Spent,
-    /// A message that the call brings passes the limits of the wire: one that is passed on, by its sender, or a list of
-    /// names.
-    #[error("a message passes the limits of the wire")]
-    Big,
     #[error("out of memory")]
     NoMemory,
 }

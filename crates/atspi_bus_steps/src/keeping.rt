@@ -1,6 +1,6 @@
 //! A new bus, a copy of one, and who has joined it.
 
-ghost use Rattle.std.specs.Prelude.{◌≡◌, ◌<◌, ◌≤◌, ◌↔◌, ◌++◌, ℕ, List, [], All, map, length, drop, option_copied};
+ghost use Rattle.std.specs.Prelude.{◌≡◌, ◌<◌, ◌≤◌, ◌↔◌, ◌++◌, ℕ, min, List, [], All, map, length, drop, option_copied};
 ghost use Rattle.std.specs.Prelude.{option_to_list, IfNone, IfOk, IsErrOf, IsTrue, OnOk, OnErr};
 ghost use Rattle.atspi_message.specs.Envelope.{envelope_of};
 ghost use Rattle.atspi_match.specs.routing.BusState.{unique_of};
@@ -10,7 +10,7 @@ ghost use Rattle.atspi_bus_queues.specs.Change.{with_queue};
 ghost use Rattle.atspi_bus_steps.specs.InnerBus.{inner_of, state_of};
 ghost use Rattle.atspi_bus_steps.specs.Sound.{IsSound};
 
-use crate::BusFault;
+use crate::JoinFault;
 use crate::inner::Inner;
 use atspi_base::NoMemory;
 use atspi_base::valid_names::BusName;
@@ -23,9 +23,9 @@ use std::alloc::Global;
 use std::collections::VecDeque;
 
 impl Inner {
-    /// A bus with this quota, to which nobody has joined.
+    /// A bus with this quota, to which nobody has joined. A quota of more than 67,108,864 bytes counts as that.
     pub fn new(alloc: Global, quota: u32) -> Inner
-        ensures bus { inner_of result ≡ empty_bus quota }
+        ensures bus { inner_of result ≡ empty_bus (min quota 67108864) }
     {
         Inner {
             alloc,
@@ -103,21 +103,21 @@ impl Inner {
 }
 
 impl Inner {
-    /// A connection joins whose number is above those of all that have joined. Full where it is not; after a fault all
-    /// is as before.
-    pub fn join_behind(&mut self, conn: u32) -> Result<(), BusFault>
+    /// A connection joins whose number is above those of all that have joined. Full exactly where it is not; after a
+    /// fault all is as before.
+    pub fn join_behind(&mut self, conn: u32) -> Result<(), JoinFault>
         requires sound { IsSound (state_of self.old) }
         ensures ok { OnOk result (inner_of self.new ≡ joins (inner_of self.old) conn) }
         ensures sound { OnOk result (IsSound (state_of self.new)) }
-        ensures full { IsErrOf result BusFault.Full → All (λ c. c < conn) (state_of self.old).joined → ⊥ }
+        ensures full { IsErrOf result JoinFault.Full ↔ (All (λ c. c < conn) (state_of self.old).joined → ⊥) }
         ensures err { OnErr result (inner_of self.new ≡ inner_of self.old) }
     {
         if !is_above(&self.joined, conn) {
-            return Err(BusFault::Full);
+            return Err(JoinFault::Full);
         }
         match self.join(conn) {
             Ok(()) => Ok(()),
-            Err(_) => Err(BusFault::NoMemory),
+            Err(_) => Err(JoinFault::NoMemory),
         }
     }
 

@@ -5,7 +5,6 @@ ghost use Rattle.atspi_message.specs.Envelope.{envelope_of};
 ghost use Rattle.atspi_match.specs.routing.BusState as states;
 ghost use Rattle.atspi_match.specs.routing.Queues as queues;
 ghost use Rattle.atspi_bus_steps.specs.InnerBus.{inner_of, state_of, call_of};
-ghost use Rattle.atspi_bus_steps.specs.Limits.{SaysTooMuch};
 ghost use Rattle.atspi_bus_steps.specs.Sound.{IsSound};
 ghost use Rattle.atspi_bus_steps.specs.Farewell as farewell;
 ghost use Rattle.atspi_bus_steps.specs.Farewell.{forgotten};
@@ -118,8 +117,6 @@ impl Inner {
         ensures ok { OnOk result (inner_of self.new ≡ queues.left (inner_of self.old) conn) }
         ensures sound { OnOk result (IsSound (state_of self.new)) }
         ensures spent { IsErrOf result BusFault.Spent → 4294967296 < (queues.left (inner_of self.old) conn).state.next }
-        ensures big { IsErrOf result BusFault.Big
-            → SaysTooMuch (inner_of self.old) (queues.left (inner_of self.old) conn) }
     {
         let alloc = self.alloc;
         let mut told = Vec::new(alloc);
@@ -137,8 +134,6 @@ impl Inner {
         ensures ok { OnOk result (inner_of self.new ≡ queues.left (inner_of self.old) conn) }
         ensures sound { OnOk result (IsSound (state_of self.new)) }
         ensures spent { IsErrOf result BusFault.Spent → 4294967296 < (queues.left (inner_of self.old) conn).state.next }
-        ensures big { IsErrOf result BusFault.Big
-            → SaysTooMuch (inner_of self.old) (queues.left (inner_of self.old) conn) }
     {
         match self.names.unique_name(conn) {
             Some(name) => {
@@ -159,8 +154,6 @@ impl Inner {
         ensures sound { OnOk result (IsSound (state_of self.new)) }
         ensures spent { IsErrOf result BusFault.Spent
             → 4294967296 < (queues.closed (inner_of self.old) conn why).state.next }
-        ensures big { IsErrOf result BusFault.Big
-            → SaysTooMuch (inner_of self.old) (queues.closed (inner_of self.old) conn why) }
     {
         let after = (self.next - 1) as u32;
         self.closings.push_back(Closing { conn, why, after })?;
@@ -175,8 +168,6 @@ impl Inner {
         ensures sound { OnOk result (IsSound (state_of self.new)) }
         ensures spent { IsErrOf result BusFault.Spent
             → 4294967296 < (queues.settled rounds (inner_of self.old)).state.next }
-        ensures big { IsErrOf result BusFault.Big
-            → SaysTooMuch (inner_of self.old) (queues.settled rounds (inner_of self.old)) }
     {
         for round in 0..rounds {
             match self.queues.first_due() {
@@ -195,8 +186,6 @@ impl Inner {
         ensures sound { OnOk result (IsSound (state_of self.new)) }
         ensures spent { IsErrOf result BusFault.Spent
             → 4294967296 < (queues.settled rounds (inner_of self.old)).state.next }
-        ensures big { IsErrOf result BusFault.Big
-            → SaysTooMuch (inner_of self.old) (queues.settled rounds (inner_of self.old)) }
         ensures err { OnErr result (inner_of self.new ≡ queues.empty_bus 0) }
     {
         match self.close_due(rounds) {

@@ -16,8 +16,8 @@ mod standing;
 mod taking;
 
 pub use calling::greeting;
-pub use fault::BusFault;
-pub use handing::write_own;
+pub use fault::{BusFault, JoinFault};
+pub use handing::{Spelled, write_own};
 pub use inner::Inner;
 pub use leaving::tell_callers;
 pub use open_call::OpenCall;

@@ -1,6 +1,6 @@
 //! Messages that are passed on, and the calls that wait for their replies.
 
-ghost use Rattle.std.specs.Prelude.{◌≡◌, ◌≢◌, ◌⊎◌, ◌+◌, ◌<◌, ◌≤◌, ◌==◌, ◌&&◌, ℕ, true, false, [], ◌∷◌, ◌++◌, not, map};
+ghost use Rattle.std.specs.Prelude.{◌≡◌, ◌≢◌, ◌+◌, ◌<◌, ◌≤◌, ◌==◌, ◌&&◌, ℕ, true, false, [], ◌∷◌, ◌++◌, not, map};
 ghost use Rattle.std.specs.Prelude.{length, None, Some, All, IfOk, OnOk, OnErr, IsErrOf, MatchBool, MatchOption};
 ghost use Rattle.std.specs.Prelude.{remove, vec_len, vec_capacity};
 ghost use Rattle.std.specs.List.Sorted.{IsStrictlyIncreasing};
@@ -13,14 +13,13 @@ ghost use Rattle.atspi_names.specs.Owners.{list_of};
 ghost use Rattle.atspi_match.specs.routing.Routing as routing;
 ghost use Rattle.atspi_match.specs.routing.Routing.{calls_after, without_answered};
 ghost use Rattle.atspi_match.specs.routing.Queues.{stepped};
-ghost use Rattle.atspi_match.specs.routing.Steps.{passes_on, calls_after_all, is_unowned};
+ghost use Rattle.atspi_match.specs.routing.Steps.{passes_on, calls_after_all};
 ghost use Rattle.atspi_bus_steps.specs.InnerBus.{inner_of, state_of, call_of, parts};
 ghost use Rattle.atspi_bus_steps.specs.inner.Handing.{forwards, queued_each, WentToAll, WentSigned, IsPassed};
-ghost use Rattle.atspi_bus_steps.specs.Limits.{PassesLimits, SaysTooMuch};
 ghost use Rattle.atspi_bus_steps.specs.Sound.{IsSound};
 
 use crate::BusFault;
-use crate::handing::{hand_out, write_again};
+use crate::handing::{Spelled, hand_out, write_again};
 use crate::inner::Inner;
 use crate::open_call::OpenCall;
 use crate::receiving::{bus_name, receivers};
@@ -112,7 +111,9 @@ fn hand_to_each(
     ensures spent { IsErrOf result BusFault.Spent → ⊥ }
     ensures err { OnErr result ((calls.new.items ≡ calls.old.items) × (queues.new ≡ queues.old)) }
 {
-    let bytes = write_again(alloc, m)?;
+    let Spelled::Bytes(bytes) = write_again(alloc, m)? else {
+        return Ok(false);
+    };
     calls.reserve(receivers.len())?;
     let went = queues.push_each(receivers, bytes.as_slice())?;
     if !went {
@@ -225,11 +226,10 @@ impl Inner {
         ensures ok { OnOk result
             (inner_of self.new ≡ stepped (inner_of self.old) (forwards (state_of self.old) conn (envelope_at m.now))) }
         ensures spent { IsErrOf result BusFault.Spent → ⊥ }
-        ensures big { IsErrOf result BusFault.Big → PassesLimits (envelope_at m.now) }
     {
-        let bytes = write_again(self.alloc, m)?;
+        let spelled = write_again(self.alloc, m)?;
         self.calls.reserve(receivers.len())?;
-        hand_out(&mut self.queues, bytes.as_slice(), receivers)?;
+        hand_out(&mut self.queues, &spelled, receivers)?;
         note_all(&mut self.calls, conn, m, receivers);
         Ok(())
     }
@@ -244,11 +244,6 @@ impl Inner {
         ensures sound { OnOk result (IsSound (state_of self.new)) }
         ensures spent { IsErrOf result BusFault.Spent
             → 4294967296 < (passes_on (state_of self.old) conn (envelope_at m.now)).state.next }
-        ensures big { IsErrOf result BusFault.Big
-            → ((is_unowned (envelope_at m.now).destination (routing.receivers (state_of self.old) (envelope_at m.now))
-            ≡ false) × PassesLimits (envelope_at m.now))
-            ⊎ SaysTooMuch (inner_of self.old)
-            (stepped (inner_of self.old) (passes_on (state_of self.old) conn (envelope_at m.now))) }
     {
         let (names, rules) = (&self.names, &self.rules);
         let found = receivers(self.alloc, &self.joined, names, rules, m)?;

@@ -13,7 +13,9 @@ ghost use Rattle.atspi_match.specs.routing.Routing as routing;
 ghost use Rattle.atspi_match.specs.routing.Routing.{asks_for, one_or_none};
 ghost use Rattle.atspi_bus_steps.specs.InnerBus.{parts};
 ghost use Rattle.atspi_bus_steps.specs.inner.Asking.{has_joined};
+ghost use Rattle.atspi_bus_steps.specs.Spelled.{IsOwn};
 
+use crate::handing::Spelled;
 use atspi_base::valid_names::{BusName, NameFault};
 use atspi_base::{NoMemory, Nums, Steps};
 use atspi_match::RuleIndex;
@@ -133,5 +135,31 @@ pub fn receivers_of_own(
     match MessageRef::parse(bytes) {
         Ok(m) => receivers(alloc, joined, names, rules, &m),
         Err(_) => unreachable!(),
+    }
+}
+
+/// Who receives a message of the bus's own: where it is too long for the wire, the owner of its destination, since it is
+/// no signal.
+pub fn receivers_of(
+    alloc: Global,
+    joined: &[u32],
+    names: &Names,
+    rules: &RuleIndex,
+    message: &Message,
+    spelled: &Spelled,
+) -> Result<Vec<u32>, NoMemory>
+    requires joined { IsStrictlyIncreasing joined.now }
+    requires own { IsOwn spelled.now (envelope_of message.now) }
+    ensures { IfOk result
+        (λ conns. conns.items ≡ routing.receivers (parts joined.now names.now rules.now) (envelope_of message.now)) }
+{
+    match spelled {
+        Spelled::Bytes(bytes) => {
+            receivers_of_own(alloc, joined, names, rules, message, bytes.as_slice())
+        }
+        Spelled::TooLong(_) => match &message.destination {
+            Some(name) => owner_of(alloc, names, name),
+            None => Ok(Vec::new(alloc)),
+        },
     }
 }

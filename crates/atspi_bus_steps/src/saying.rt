@@ -10,14 +10,13 @@ ghost use Rattle.atspi_match.specs.routing.Steps.{speaks, replies};
 ghost use Rattle.atspi_bus_answers.specs.Answered.{reply_of};
 ghost use Rattle.atspi_bus_steps.specs.InnerBus.{inner_of, state_of};
 ghost use Rattle.atspi_bus_steps.specs.inner.Handing.{handed_out};
-ghost use Rattle.atspi_bus_steps.specs.Limits.{PassesLimits, SaysTooMuch};
 ghost use Rattle.atspi_bus_steps.specs.Sayable.{MaySay, IsTyped, reply_message};
 ghost use Rattle.atspi_bus_steps.specs.Sound.{IsReady};
 
 use crate::BusFault;
 use crate::handing::{hand_out, write_own};
 use crate::inner::Inner;
-use crate::receiving::receivers_of_own;
+use crate::receiving::receivers_of;
 use atspi_base::NoMemory;
 use atspi_bus_answers::{Reply, error_to, return_to};
 use atspi_message::Message;
@@ -38,13 +37,11 @@ impl Inner {
         requires meets { MeetsRules (envelope_of message.now) }
         ensures ok { OnOk result (inner_of self.new ≡ handed_out (inner_of self.old) (envelope_of message.now)) }
         ensures spent { IsErrOf result BusFault.Spent → ⊥ }
-        ensures big { IsErrOf result BusFault.Big → PassesLimits (envelope_of message.now) }
     {
-        let bytes = write_own(self.alloc, message)?;
-        let bytes = bytes.as_slice();
+        let spelled = write_own(self.alloc, message)?;
         let (names, rules) = (&self.names, &self.rules);
-        let receivers = receivers_of_own(self.alloc, &self.joined, names, rules, message, bytes)?;
-        hand_out(&mut self.queues, bytes, &receivers)?;
+        let receivers = receivers_of(self.alloc, &self.joined, names, rules, message, &spelled)?;
+        hand_out(&mut self.queues, &spelled, &receivers)?;
         Ok(())
     }
 
@@ -56,8 +53,6 @@ impl Inner {
             (inner_of self.new ≡ stepped (inner_of self.old) (speaks (state_of self.old) (envelope_of message ∷ []))) }
         ensures ready { OnOk result (IsReady (state_of self.new)) }
         ensures spent { IsErrOf result BusFault.Spent → self.old.next ≡ 4294967296 }
-        ensures big { IsErrOf result BusFault.Big → SaysTooMuch (inner_of self.old)
-            (stepped (inner_of self.old) (speaks (state_of self.old) (envelope_of message ∷ []))) }
     {
         if self.next > u64::from(u32::MAX) {
             return Err(BusFault::Spent);
@@ -81,8 +76,6 @@ impl Inner {
             ≡ stepped (inner_of self.old) (speaks (state_of self.old) (map envelope_of told.items))) }
         ensures ready { OnOk result (IsReady (state_of self.new)) }
         ensures spent { IsErrOf result BusFault.Spent → 4294967296 < self.old.next + length told.items }
-        ensures big { IsErrOf result BusFault.Big → SaysTooMuch (inner_of self.old)
-            (stepped (inner_of self.old) (speaks (state_of self.old) (map envelope_of told.items))) }
     {
         let mut rest = VecDeque::from(told);
         while let Some(message) = rest.pop_front() {
@@ -122,9 +115,6 @@ impl Inner {
             < self.old.next
             + length
             (map envelope_of told.items ++ replies (state_of self.old) conn (envelope_at m.now) (reply_of reply)) }
-        ensures big { IsErrOf result BusFault.Big
-            → SaysTooMuch (inner_of self.old) (stepped (inner_of self.old) (speaks (state_of self.old)
-            (map envelope_of told.items ++ replies (state_of self.old) conn (envelope_at m.now) (reply_of reply)))) }
     {
         let mut told = told;
         if expects_reply(m) {

@@ -1,6 +1,6 @@
 //! A bus takes a message of a connection.
 
-ghost use Rattle.std.specs.Prelude.{◌≡◌, ◌⊎◌, ◌<◌, List, Option, Some, IfOk, OnOk, OnErr, IsErrOf, MatchBool};
+ghost use Rattle.std.specs.Prelude.{◌≡◌, ◌<◌, List, Option, Some, IfOk, OnOk, OnErr, IsErrOf, MatchBool};
 ghost use Rattle.atspi_message.specs.Rules.{MeetsRules};
 ghost use Rattle.atspi_message_in_place.specs.View.{bytes_of, envelope_at};
 ghost use Rattle.atspi_match.specs.declared.condition.Condition.{Condition};
@@ -10,7 +10,6 @@ ghost use Rattle.atspi_match.specs.routing.Steps as steps;
 ghost use Rattle.atspi_match.specs.routing.Queues as queues;
 ghost use Rattle.atspi_match.specs.routing.Queues.{stepped};
 ghost use Rattle.atspi_bus_steps.specs.InnerBus.{inner_of, state_of};
-ghost use Rattle.atspi_bus_steps.specs.Limits.{IsTooBig, IsTooBigToPass, SaysTooMuch};
 ghost use Rattle.atspi_bus_steps.specs.Sound.{IsSound};
 ghost use Rattle.atspi_bus_steps.specs.Spoken.{IsRuleTaken, IsRuleNamed};
 ghost use Rattle.atspi_bus_steps.specs.Greeting.{is_bus_or_none};
@@ -106,11 +105,6 @@ impl Inner {
         ensures spent { IsErrOf result BusFault.Spent
             → (rule : Option (List Condition)) × IsRuleNamed (envelope_at m.now) rule
             × (4294967296 < (steps.takes_from_named (state_of self.old) conn (envelope_at m.now) rule).state.next) }
-        ensures big { IsErrOf result BusFault.Big
-            → (rule : Option (List Condition)) × IsRuleNamed (envelope_at m.now) rule
-            × (IsTooBigToPass (state_of self.old) (envelope_at m.now)
-            ⊎ SaysTooMuch (inner_of self.old)
-            (stepped (inner_of self.old) (steps.takes_from_named (state_of self.old) conn (envelope_at m.now) rule))) }
     {
         if is_for_bus(m) {
             if m.kind == 1 {
@@ -138,13 +132,6 @@ impl Inner {
             × (4294967296
             < (steps.takes_from_named (state_of self.old) conn (record (envelope_at m.now) { sender = Some name.now })
             rule).state.next) }
-        ensures big { IsErrOf result BusFault.Big
-            → (rule : Option (List Condition)) × IsRuleNamed (envelope_at m.now) rule
-            × (IsTooBigToPass (state_of self.old) (record (envelope_at m.now) { sender = Some name.now })
-            ⊎ SaysTooMuch (inner_of self.old)
-            (stepped (inner_of self.old)
-            (steps.takes_from_named (state_of self.old) conn (record (envelope_at m.now) { sender = Some name.now })
-            rule))) }
     {
         self.take_named(conn, &with_sender(m, name))
     }
@@ -161,10 +148,6 @@ impl Inner {
         ensures spent { IsErrOf result BusFault.Spent
             → (rule : Option (List Condition)) × IsRuleTaken (state_of self.old) conn (envelope_at m.now) rule
             × (4294967296 < (steps.bus_takes (state_of self.old) conn (envelope_at m.now) rule).state.next) }
-        ensures big { IsErrOf result BusFault.Big
-            → (rule : Option (List Condition)) × IsRuleTaken (state_of self.old) conn (envelope_at m.now) rule
-            × IsTooBig (inner_of self.old) conn (envelope_at m.now)
-            (stepped (inner_of self.old) (steps.bus_takes (state_of self.old) conn (envelope_at m.now) rule)) }
     {
         match self.names.unique_name(conn) {
             Some(name) => {
@@ -194,10 +177,6 @@ impl Inner {
         ensures spent { IsErrOf result BusFault.Spent
             → (rule : Option (List Condition)) × IsRuleTaken (state_of self.old) conn (envelope_at m.now) rule
             × (4294967296 < (steps.bus_takes (state_of self.old) conn (envelope_at m.now) rule).state.next) }
-        ensures big { IsErrOf result BusFault.Big
-            → (rule : Option (List Condition)) × IsRuleTaken (state_of self.old) conn (envelope_at m.now) rule
-            × IsTooBig (inner_of self.old) conn (envelope_at m.now)
-            (stepped (inner_of self.old) (steps.bus_takes (state_of self.old) conn (envelope_at m.now) rule)) }
         ensures err { OnErr result (inner_of self.new ≡ queues.empty_bus 0) }
     {
         match self.make_step(conn, m) {
@@ -243,10 +222,6 @@ impl Inner {
         ensures spent { IsErrOf result BusFault.Spent
             → (rule : Option (List Condition)) × IsRuleTaken (state_of self.old) conn (envelope_at m.now) rule
             × (4294967296 < (queues.takes (inner_of self.old) conn (envelope_at m.now) rule).state.next) }
-        ensures big { IsErrOf result BusFault.Big
-            → (rule : Option (List Condition)) × IsRuleTaken (state_of self.old) conn (envelope_at m.now) rule
-            × IsTooBig (inner_of self.old) conn (envelope_at m.now)
-            (queues.takes (inner_of self.old) conn (envelope_at m.now) rule) }
         ensures err { OnErr result (inner_of self.new ≡ queues.empty_bus 0) }
     {
         let rounds = self.joined.len();
@@ -264,8 +239,6 @@ impl Inner {
         ensures sound { OnOk result (IsSound (state_of self.new)) }
         ensures spent { IsErrOf result BusFault.Spent
             → 4294967296 < (queues.leaves (inner_of self.old) conn).state.next }
-        ensures big { IsErrOf result BusFault.Big
-            → SaysTooMuch (inner_of self.old) (queues.leaves (inner_of self.old) conn) }
         ensures err { OnErr result (inner_of self.new ≡ queues.empty_bus 0) }
     {
         let rounds = self.joined.len();

@@ -3,6 +3,7 @@
 
 mod hostile;
 mod letters;
+mod longest;
 mod looking;
 mod playing;
 mod rows;

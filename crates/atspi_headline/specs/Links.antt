@@ -4,6 +4,7 @@ use Rattle.std.specs.Prelude.{◌∷◌, ◌++◌, length, map, filter, filter_m
 use Rattle.std.specs.Prelude.{slice_get, drop, if◌then◌else◌, ℕ}
 use Rattle.atspi_message.specs.Envelope.{Envelope}
 use Rattle.atspi_message.specs.Bytes.{written}
+use Rattle.atspi_message.specs.Length.{told}
 use Rattle.atspi_names.specs.Owners.{own_name}
 use Rattle.atspi_match.specs.routing.Members.{is_text}
 use Rattle.atspi_match.specs.routing.BusState.{BusState, begins as no_bus}
@@ -179,14 +180,14 @@ bytes_move run who up count =
     if up && (is_stopped run who && nat_lt 0 count) then takes_end who
     else moves_bytes who up (min count (waiting run who up))
 
--- WHO IS TO BE DROPPED, in order, with the bytes that waited and those of the message: at the first delivery to each
--- end that its quota does not let in
+-- WHO IS TO BE DROPPED, in order, with the bytes that waited and those of the message, of which 4,294,967,295 are told
+-- at most: at the first delivery to each end that its quota does not let in
 abbrev pub drop_at : ℕ → List Delivery → Delivery → List Entry
 drop_at quota before d =
     let own = filter (is_to d.to) before in
     let made = kept quota [] own in
     if (length made == length own) && passes quota made d
-    then dropped d.to (sizes (letters made) - d.mark) (size d.letter) ∷ [] else []
+    then dropped d.to (sizes (letters made) - d.mark) (told (size d.letter)) ∷ [] else []
 
 abbrev pub drops_among : ℕ → List Delivery → List Delivery → List Entry
 drops_among quota before [] = []

@@ -7,7 +7,6 @@ use Rattle.std.proofs.lemmas.Bool.Decides.{eqb_tells}
 use lib.ListN.{get_or}
 use Rattle.atspi_message.specs.Envelope.{Envelope}
 use Rattle.atspi_match.specs.declared.routing.closing.Closing.{Closing}
-use Rattle.atspi_match.specs.routing.Queues as queues
 use Rattle.atspi_bus.specs.declared.bus.Bus.{Bus}
 use Rattle.atspi_bus.specs.View.{bus_of, given_of}
 use Rattle.atspi_live_host.specs.Calls.{IsOpen, taken, given}
@@ -260,7 +259,7 @@ waits b b' links at number l m o calls h e s same conn p t counted =
     ))
 
 -- the next is bad
-ceases : (whole : Bool) (k c : ℕ) (x : Course) (links rest : List ℕ) (calls : List Call) (y : Course) → IsOpen k links → IsBad x.bus c rest → Parts whole k c x links calls y → Ceases whole k c x links rest calls y
+ceases : (whole : Bool) (k c : ℕ) (x : Course) (links rest : List ℕ) (calls : List Call) (y : Course) → IsOpen k links → IsBad rest → Parts whole k c x links calls y → Ceases whole k c x links rest calls y
 ceases true k c x links rest calls y o bad p = inr (inr (o, bad, p))
 ceases false k c x links rest calls y o bad p = inr (o, bad, p)
 
@@ -277,7 +276,7 @@ bad_parts whole b b' links new_links at number l m old new T h e same conn p t c
         λ c there. (
           l.feeder,
           rest_of b links at number c l x past h e p g there,
-          ceases whole number c x (numbers_of (seats links)) l.feeder calls z (found_open links at number h p) (its_fault past x g c there)
+          ceases whole number c x (numbers_of (seats links)) l.feeder calls z (found_open links at number h p) t.1
               (subst (λ (k : ℕ). Parts whole k c x (numbers_of (seats links)) calls z) (number_set links at m h ∙ same ∙ its_number)
               (subst (λ (d : ℕ). Parts whole (number_at (slice_set links at m) at) d x (numbers_of (seats links)) calls z) (conn_set links at m h ∙ conn ∙ sym (its_conn past x g c there))
               (subst (λ (w : List (ℕ × ℕ)). Parts whole (number_at (slice_set links at m) at) (conn_at (slice_set links at m) at) x (numbers_of w) calls z) seated q.0))),
@@ -293,10 +292,6 @@ bad_parts whole b b' links new_links at number l m old new T h e same conn p t c
 
     its_conn : (past : List Call) (x : Course) → Goes b links x past → (c : ℕ) → x.conn number ≡ Some c → c ≡ l.conn
     its_conn past x g c there = seated_conn b links x past at c l h e g (ap (λ (k : ℕ). x.conn k) its_number ∙ there)
-
-    its_fault : (past : List Call) (x : Course) → Goes b links x past → (c : ℕ) → x.conn number ≡ Some c → IsBad x.bus c l.feeder
-    its_fault past x g c there =
-        subst (λ (d : ℕ). IsBad x.bus d l.feeder) (sym (its_conn past x g c there)) (subst (λ (w : queues.Bus). IsBad w l.conn l.feeder) (sym g.bus_is) t.1)
 
 pub bad_taken : (b b' b'' : Bus) (links new_links : List Link) (at number : ℕ) (l m : Link) (old new : Option (List Call)) → at < length links → l ≡ slice_index_or links at l → m.number ≡ l.number → m.conn ≡ l.conn
     → Some at ≡ position (λ (x : Link). x.number == number) links → Tells next.Bad l m (bus_of b) (bus_of b') → given_of b' ≡ given_of b

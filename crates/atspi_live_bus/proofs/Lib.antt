@@ -18,4 +18,5 @@ pub mod Admitting
 pub mod Rounding
 pub mod Worked
 pub mod Refusing
+pub mod StepsClosing
 pub mod Stopping

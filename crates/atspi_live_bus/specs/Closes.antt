@@ -3,13 +3,8 @@ use Rattle.std.specs.Prelude.{◌≡◌, ◌⊎◌, ℕ, Bool, true, false, List
 use Rattle.atspi_auth.specs.Talk.{after, behind, fault_in, server_start}
 use Rattle.atspi_auth.specs.declared.fault.AuthFault.{AuthFault}
 use Rattle.atspi_message.specs.Envelope.{Envelope}
-use Rattle.atspi_stream.specs.Stream.{AwaitsMore, BeginsWithMessage, HasFault, IsParted}
-use Rattle.atspi_match.specs.declared.condition.Condition.{Condition}
+use Rattle.atspi_stream.specs.Stream.{AwaitsMore, HasFault, IsParted}
 use Rattle.atspi_match.specs.declared.routing.closing.Closing.{Closing}
-use Rattle.atspi_match.specs.routing.Queues.{takes}
-use Rattle.atspi_match.specs.routing.Queues as queues
-use Rattle.atspi_bus_steps.specs.Limits.{IsTooBig}
-use Rattle.atspi_bus_steps.specs.Spoken.{IsRuleTaken}
 use Rattle.atspi_live_host.specs.declared.call.Did.{Did}
 use Rattle.atspi_live_host.specs.declared.call.Did.TheVariants.{Done, NotYet, End, Failed}
 use Rattle.atspi_live_host.specs.declared.call.Call.{Call}
@@ -59,15 +54,9 @@ abbrev pub IsRest : List ℕ → List Envelope → List ℕ → Type 0
 IsRest t took rest = (messages : List (Envelope × List ℕ)) × IsParted (behind server_start t) messages rest
     × (took ≡ envelopes messages)
 
--- The bus does not take a message of a connection, since with the sender's name it passes the limits of the wire, or
--- one does that the bus would say for it.
-abbrev pub IsRefused : queues.Bus → ℕ → Envelope → Type 0
-IsRefused b c e = (rule : Option (List Condition)) × IsRuleTaken b.state c e rule × IsTooBig b c e (takes b c e rule)
-
--- the next message of a connection is malformed; or it is whole, and the bus as it then stands does not take it
-abbrev pub IsBad : queues.Bus → ℕ → List ℕ → Type 0
-IsBad b c rest = ((place : ℕ) × (reason : ℕ) × HasFault rest place reason)
-    ⊎ ((next : BeginsWithMessage rest) × IsRefused b c next.envelope)
+-- the next message is malformed
+abbrev pub IsBad : List ℕ → Type 0
+IsBad rest = (place : ℕ) × (reason : ℕ) × HasFault rest place reason
 
 -- What comes behind the messages that were taken of a link, where these bytes are left: nothing where they closed it,
 -- or where no further message is whole; and where the next is bad, the link's own close. Or the bus stopped there.
@@ -75,9 +64,9 @@ abbrev pub Ceases : Bool → ℕ → ℕ → Course → List ℕ → List ℕ �
 Ceases true k c x links rest calls y =
     ((IsOpen k links → ⊥) × (calls ≡ []) × (y ≡ x))
     ⊎ ((IsOpen k links × AwaitsMore rest × (calls ≡ []) × (y ≡ x))
-    ⊎ (IsOpen k links × IsBad x.bus c rest × Parts true k c x links calls y))
+    ⊎ (IsOpen k links × IsBad rest × Parts true k c x links calls y))
 Ceases false k c x links rest calls y = ((calls ≡ []) × (y ≡ x))
-    ⊎ (IsOpen k links × IsBad x.bus c rest × Parts false k c x links calls y)
+    ⊎ (IsOpen k links × IsBad rest × Parts false k c x links calls y)
 
 -- the messages that the bus took of it are the first of what it sent, and this comes behind them
 abbrev pub Follows : Bool → ℕ → ℕ → Course → List ℕ → List ℕ → List Call → Course → Type 0

@@ -94,7 +94,7 @@ Tells next.Took old new b b' =
 Tells next.NotYet old new b b' = (b' ≡ b)
     × ((took : List Envelope) (handed t g : List ℕ) → Converses took handed old t g → Converses took handed new t g)
     × AwaitsMore old.feeder
-Tells next.Bad old new b b' = (b' ≡ b) × IsBad b old.conn old.feeder
+Tells next.Bad old new b b' = (b' ≡ b) × IsBad old.feeder
 
 -- what the bus handed out for a connection, as its link has it
 pub record Fetches (c : ℕ) (b b' : queues.Bus) (old new : Link) : Type 0 where

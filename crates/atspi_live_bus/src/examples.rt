@@ -13,11 +13,9 @@ ghost use Rattle.atspi_live_bus.specs.Asked.{telling};
 ghost use Rattle.atspi_match.specs.declared.routing.closing.Closing.{Closing};
 ghost use Rattle.atspi_match.specs.declared.condition.Condition.{Condition};
 ghost use Rattle.atspi_match.specs.routing.Queues.{Bus, takes};
-ghost use Rattle.atspi_match.specs.routing.Room.{zero_};
 ghost use Rattle.atspi_bus_steps.specs.Spoken.{IsRuleTaken};
-ghost use Rattle.atspi_bus_steps.specs.Limits.{PassesLimits};
-ghost use Rattle.atspi_live_bus.specs.Cases.{hushed, one_due, one_link, signal_of, two_conns, two_links};
-ghost use Rattle.atspi_live_bus.specs.Closes.{AreShut, AreTaken, Ceases, FollowsRead, IsBad, IsLost, IsRefused, IsRest};
+ghost use Rattle.atspi_live_bus.specs.Cases.{one_due, one_link, signal_of, two_conns, two_links};
+ghost use Rattle.atspi_live_bus.specs.Closes.{AreShut, AreTaken, Ceases, FollowsRead, IsBad, IsLost, IsRest};
 ghost use Rattle.atspi_live_bus.specs.Closes.{Parts};
 ghost use Rattle.atspi_live_bus.specs.Course.{Course, IsCourse, Steps, start};
 ghost use Rattle.atspi_live_bus.specs.Opened.{open_behind};
@@ -90,33 +88,14 @@ pub fn causes()
         → FollowsRead true 3 0 two_links (3 ∷ 5 ∷ []) Did.End t (Call.Close 5 ∷ []) y → ⊥ }
 {}
 
-/// A message of connection 0, which has its name, is refused where it passes the limits of the wire with that name,
-/// also where nobody receives it, and it is not where it does not. One to a name that nobody owns is not, whatever its
-/// size, and neither is the first message of a connection where it is no Hello, for these are not passed on, and the
-/// bus says nothing.
-pub fn refusals()
-    ensures large { (path : List ℕ) → PassesLimits (record (signal_of path) { sender = Some zero_ })
-        → IsRefused hushed 0 (signal_of path) }
-    ensures small { (path : List ℕ) → (PassesLimits (record (signal_of path) { sender = Some zero_ }) → ⊥)
-        → IsRefused hushed 0 (signal_of path) → ⊥ }
-    ensures to_nobody { (path : List ℕ)
-        → IsRefused hushed 0 (record (signal_of path) { destination = Some (codes ":1.9") }) → ⊥ }
-    ensures no_hello { (path : List ℕ) → IsRefused one_link.bus 0 (signal_of path) → ⊥ }
-{}
-
-/// A link is closed for its next message where that is malformed. One whose next message is whole is closed for it only
-/// where the bus refuses that: where it fits, the bus has to take it.
+/// A link is closed for its next message where that is malformed. One whose next message is whole is not closed for it:
+/// the bus has to take it.
 pub fn next_messages()
     ensures malformed { (x y : Course) (rest : List ℕ) (place reason : ℕ) (calls : List Call)
         → HasFault rest place reason → Parts true 3 0 x (3 ∷ 5 ∷ []) calls y
         → Ceases true 3 0 x (3 ∷ 5 ∷ []) rest calls y }
-    ensures refused { (x y : Course) (rest : List ℕ) (next : BeginsWithMessage rest) (calls : List Call)
-        → IsRefused x.bus 0 next.envelope → Parts true 3 0 x (3 ∷ 5 ∷ []) calls y
-        → Ceases true 3 0 x (3 ∷ 5 ∷ []) rest calls y }
-    ensures taken { (x y : Course) (path rest : List ℕ) (next : BeginsWithMessage rest) (calls : List Call)
-        → HasOneAnswer rest → x.bus ≡ hushed → next.envelope ≡ signal_of path
-        → (PassesLimits (record (signal_of path) { sender = Some zero_ }) → ⊥)
-        → Ceases true 3 0 x (3 ∷ 5 ∷ []) rest calls y → ⊥ }
+    ensures taken { (x y : Course) (rest : List ℕ) (next : BeginsWithMessage rest) (calls : List Call)
+        → HasOneAnswer rest → Ceases true 3 0 x (3 ∷ 5 ∷ []) rest calls y → ⊥ }
 {}
 
 /// A message that the bus takes brings the closes that its step tells: here of link 3, whose first message is no Hello,
@@ -188,7 +167,7 @@ pub fn last_rounds()
 {}
 
 /// What a link has next: a message that the bus takes, which is then held no more; none that is whole; or one that is
-/// malformed or refused, and then the bus is as it was.
+/// malformed, and then the bus is as it was.
 pub fn next_of_links()
     ensures taken { (l m : Link) (b : Bus) (e : Envelope) (rule : Option (List Condition))
         → fault_in l.server.stage ≡ Some AuthFault.NoZero → IsRuleTaken b.state l.conn e rule
@@ -201,7 +180,7 @@ pub fn next_of_links()
     ensures not_whole_changes { (l : Link) (b d : Bus) → b.quota ≡ 4 → d.quota ≡ 5 → Tells Next.NotYet l l b d → ⊥ }
     ensures malformed { (l m : Link) (b : Bus) (place reason : ℕ) → HasFault l.feeder place reason
         → Tells Next.Bad l m b b }
-    ensures good { (l m : Link) (b : Bus) → (IsBad b l.conn l.feeder → ⊥) → Tells Next.Bad l m b b → ⊥ }
+    ensures good { (l m : Link) (b : Bus) → (IsBad l.feeder → ⊥) → Tells Next.Bad l m b b → ⊥ }
     ensures malformed_changes { (l m : Link) (b d : Bus) → b.quota ≡ 4 → d.quota ≡ 5 → Tells Next.Bad l m b d → ⊥ }
 {}
 

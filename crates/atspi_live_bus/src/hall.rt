@@ -89,7 +89,8 @@ impl Hall {
             .position(|link| from <= u64::from(link.conn))
     }
 
-    /// A link that was given joins the bus, behind the others.
+    /// A link that was given joins the bus, behind the others. All numbers of connections are never given: there is one
+    /// a round at the most.
     fn seat(&mut self, number: u32) -> Result<(), Stop>
         ensures ok { OnOk result (Seats number self.old.bus self.new.bus self.old.links.items self.new.links.items) }
         ensures cause { IfErr result IsWant }

@@ -122,8 +122,6 @@ impl Link {
         match self.feeder.next() {
             Got::Message(message) => match bus.take(self.conn, &message) {
                 Ok(()) => Ok(Next::Took),
-                // it passes the limits of the wire, or what the bus would say for it does
-                Err(BusFault::Big) => Ok(Next::Bad),
                 Err(fault) => Err(stop_of(fault)),
             },
             Got::NotYet => Ok(Next::NotYet),

@@ -15,14 +15,13 @@ pub(crate) enum Stop {
     NoMemory,
 }
 
-/// Why the bus stops where a call of it was refused. All numbers of connections are never given: there is one a round
-/// at the most.
+/// Why the bus stops where a message or a leaving of it was refused.
 pub(crate) fn stop_of(fault: BusFault) -> Stop
     ensures free { IsFree result }
     ensures spent { result ≡ Stop.Spent → fault ≡ BusFault.Spent }
 {
     match fault {
         BusFault::Spent => Stop::Spent,
-        BusFault::Full | BusFault::Big | BusFault::NoMemory => Stop::NoMemory,
+        BusFault::NoMemory => Stop::NoMemory,
     }
 }

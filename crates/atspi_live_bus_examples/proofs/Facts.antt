@@ -124,7 +124,7 @@ pub stopped_close : (x y : Course) (rest : List ℕ) → Ceases false 3 0 x (5 �
 stopped_close x y rest (inl n) = not_none (Close 3) [] (sym n.0)
 stopped_close x y rest (inr b) = three_not_open b.0
 
-pub stopped_good : (x y : Course) (rest : List ℕ) → (IsBad x.bus 0 rest → ⊥) → Ceases false 3 0 x (3 ∷ 5 ∷ []) rest (Close 3 ∷ []) y → ⊥
+pub stopped_good : (x y : Course) (rest : List ℕ) → (IsBad rest → ⊥) → Ceases false 3 0 x (3 ∷ 5 ∷ []) rest (Close 3 ∷ []) y → ⊥
 stopped_good x y rest good (inl n) = not_none (Close 3) [] (sym n.0)
 stopped_good x y rest good (inr b) = good b.1
 

@@ -5,11 +5,9 @@ ghost use Rattle.atspi_message.specs.Envelope.{Envelope};
 ghost use Rattle.atspi_match.specs.declared.condition.Condition.{Condition};
 ghost use Rattle.atspi_match.specs.routing.Queues.{Bus, joins, leaves, queue_of, takes};
 ghost use Rattle.atspi_bus_queues.specs.Change.{with_queue};
-ghost use Rattle.atspi_bus_steps.specs.Limits.{IsTooBig};
 ghost use Rattle.atspi_bus_steps.specs.Spoken.{IsRuleTaken};
 ghost use Rattle.atspi_live_bus.specs.Asked.{Leads, Runs, Spends, joining, leaving, popping, taking, telling};
 ghost use Rattle.atspi_live_bus.specs.Cases.{one_link};
-ghost use Rattle.atspi_live_bus.specs.Closes.{IsRefused};
 ghost use Rattle.atspi_live_bus.specs.Course.{start};
 
 /// What one call makes of a bus: a connection joins behind the others, a message is taken by the rule that it speaks
@@ -46,13 +44,4 @@ pub fn last_numbers()
         → ((c : ℕ) (e : Envelope) (rule : Option (List Condition)) → IsRuleTaken b.state c e rule
         → (takes b c e rule).state.next ≤ 4294967296)
         → ((c : ℕ) → (leaves b c).state.next ≤ 4294967296) → Spends b → ⊥ }
-{}
-
-/// A message is refused where it is too big with the rule that it speaks of, and not for another rule.
-pub fn refused_by_rule()
-    ensures refused { (b : Bus) (e : Envelope) (rule : Option (List Condition)) → IsRuleTaken b.state 1 e rule
-        → IsTooBig b 1 e (takes b 1 e rule) → IsRefused b 1 e }
-    ensures other_rule { (b : Bus) (e : Envelope)
-        → ((rule : Option (List Condition)) → IsRuleTaken b.state 1 e rule → IsTooBig b 1 e (takes b 1 e rule) → ⊥)
-        → IsRefused b 1 e → ⊥ }
 {}

@@ -87,11 +87,11 @@ pub fn what_ceases()
     ensures same_of_one_closed { (x y : Course) (rest : List ℕ) (calls : List Call)
         → Ceases true 3 0 x (5 ∷ []) rest calls y → y ≡ x }
     ensures stopped { (x : Course) (rest : List ℕ) → Ceases false 3 0 x (3 ∷ 5 ∷ []) rest [] x }
-    ensures stopped_behind_close { (x : Course) (rest : List ℕ) → IsBad x.bus 0 rest
+    ensures stopped_behind_close { (x : Course) (rest : List ℕ) → IsBad rest
         → Ceases false 3 0 x (3 ∷ 5 ∷ []) rest (Call.Close 3 ∷ []) x }
     ensures stopped_closed { (x y : Course) (rest : List ℕ) → Ceases false 3 0 x (5 ∷ []) rest (Call.Close 3 ∷ []) y
         → ⊥ }
-    ensures stopped_for_nothing { (x y : Course) (rest : List ℕ) → (IsBad x.bus 0 rest → ⊥)
+    ensures stopped_for_nothing { (x y : Course) (rest : List ℕ) → (IsBad rest → ⊥)
         → Ceases false 3 0 x (3 ∷ 5 ∷ []) rest (Call.Close 3 ∷ []) y → ⊥ }
     ensures stopped_same { (x y : Course) (rest : List ℕ) (calls : List Call)
         → Ceases false 3 0 x (3 ∷ 5 ∷ []) rest calls y → y ≡ x }

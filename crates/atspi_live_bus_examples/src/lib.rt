@@ -12,7 +12,7 @@ mod rounding;
 mod seating;
 mod turning;
 
-pub use asking::{calls_in_order, calls_that_lead, last_numbers, refused_by_rule};
+pub use asking::{calls_in_order, calls_that_lead, last_numbers};
 pub use closing::{
     closed_once, left_in_part, lost_links, none_taken, open_behind_calls, rests, stopped_reads,
     what_ceases, whole_reads, writes,

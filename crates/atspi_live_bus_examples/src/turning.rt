@@ -88,7 +88,7 @@ pub fn messages_of_links()
         → MayTake false 3 (l ∷ m ∷ []) (l ∷ m ∷ []) x past [] x }
     ensures bad_next { (l m : _) (x y : Course) (past : List Call) (rest : List ℕ)
         → seats (l ∷ m ∷ []) ≡ (3, 0) ∷ (5, 1) ∷ [] → x.conn ≡ two_conns
-        → IsRest (taken 3 past) (messages_of 0 x.asked) rest → IsBad x.bus 0 rest
+        → IsRest (taken 3 past) (messages_of 0 x.asked) rest → IsBad rest
         → Parts true 3 0 x (3 ∷ 5 ∷ []) (Call.Close 3 ∷ []) y
         → TakesNone true 3 (l ∷ m ∷ []) (m ∷ []) x past (Call.Close 3 ∷ []) y }
     ensures left { (l m : _) (x y : Course) (past : List Call) → seats (l ∷ m ∷ []) ≡ (3, 0) ∷ (5, 1) ∷ []

@@ -1,3 +1,4 @@
 pub mod Known
+pub mod Long
 pub mod Within
 pub mod Deciding

@@ -27,7 +27,7 @@ abbrev pub field_of : ℕ → Kind → Data → Field
 field_of code k d = record { code = code; kind = k; value = d }
 
 -- a field begins with four bytes behind its padding
-length_front : (at code letter : ℕ) → at + length (field_front at code letter) ≡ aligned 8 at + 4
+pub length_front : (at code letter : ℕ) → at + length (field_front at code letter) ≡ aligned 8 at + 4
 length_front at code letter = omega (arith, length_padding 8 at, length-append (padding 8 at) (code ∷ 1 ∷ letter ∷ 0 ∷ []))
 
 pub front_refused : (Q : Type 0) (t : List ℕ) (at code letter : ℕ) (old new last : List ℕ) (e : WriteFault) → Writes (Unit {0}) (field_front at code letter) at old new (Err e) → Writes Q (field_front at code letter ++ t) at old last (Err e)
@@ -55,7 +55,7 @@ number_spelled o a code lt = ap (λ (bs : List ℕ). bs ++ number_bytes o w8 cod
 field_place : (o : Order) (a code letter : ℕ) (k : Kind) → code < 256 → signature_bytes (single k) ≡ letter ∷ [] → a + length (spelling o a (number_data byte code)) + 2 + length (signature_bytes (single k)) ≡ a + 4
 field_place o a code letter k lt sig = omega (arith, ap length (number_spelled o a code lt), ap length sig)
 
-field_spelled : (o : Order) (at code letter : ℕ) (k : Kind) (d : Data) → code < 256 → signature_bytes (single k) ≡ letter ∷ [] → spellings o at (field_items (field_of code k d ∷ [])) ≡ field_front at code letter ++ spelling o (aligned 8 at + 4) d
+pub field_spelled : (o : Order) (at code letter : ℕ) (k : Kind) (d : Data) → code < 256 → signature_bytes (single k) ≡ letter ∷ [] → spellings o at (field_items (field_of code k d ∷ [])) ≡ field_front at code letter ++ spelling o (aligned 8 at + 4) d
 field_spelled o at code letter k d lt sig =
     let a = aligned 8 at in
     let b = spelling o a (number_data byte code) in

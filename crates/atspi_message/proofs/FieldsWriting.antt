@@ -18,7 +18,7 @@ fields_end o at fs = at + length (spellings o at (field_items fs))
 abbrev spelled_at : Order → List Field → ℕ → List ℕ
 spelled_at o gs m = spellings o m (field_items gs)
 
-spellings-append : (o : Order) (at : ℕ) (fs gs : List Field) → spellings o at (field_items (fs ++ gs)) ≡ spellings o at (field_items fs) ++ spellings o (fields_end o at fs) (field_items gs)
+pub spellings-append : (o : Order) (at : ℕ) (fs gs : List Field) → spellings o at (field_items (fs ++ gs)) ≡ spellings o at (field_items fs) ++ spellings o (fields_end o at fs) (field_items gs)
 spellings-append o at [] gs = let same : at ≡ at + 0 = omega arith in ap (spelled_at o gs) same
 spellings-append o at (f ∷ fs) gs =
     let one = spelling o at (field_data f) in

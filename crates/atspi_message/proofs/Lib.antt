@@ -25,3 +25,6 @@ pub mod FieldWriting
 pub mod BodyTypes
 pub mod FieldsWriting
 pub mod MessageWriting
+pub mod Sitting
+pub mod Short
+pub mod Lengths

@@ -97,6 +97,10 @@ header_length e =
     let serial = number_bytes e.order w32 e.serial in
     omega (arith, length_fields e, length-append body (serial ++ fields_bytes e), length-append serial (fields_bytes e), wide32.long e.order (length (body_bytes e (rising_fields e))), wide32.long e.order e.serial)
 
+pub length_header : (e : Envelope) → length (header_bytes e (rising_fields e)) ≡ 16 + length (spellings e.order 16 (field_items (rising_fields e)))
+unfolding fields_end
+length_header e = header_length e
+
 pub end_is : (e : Envelope) (old header : List ℕ) (end : ℕ) → IsWritten (HeaderFits e) (start_bytes e ++ fields_bytes e) 0 old header end → end ≡ length (header_bytes e (rising_fields e))
 unfolding fields_end
 end_is e old header end w = omega (arith, w.place, length-append (start_bytes e) (fields_bytes e), length_start e, length_fields e, header_length e)

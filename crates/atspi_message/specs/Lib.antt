@@ -7,3 +7,6 @@ pub mod Front
 pub mod Rules
 pub mod Parsing
 pub mod Laws
+pub mod Sits
+pub mod Spellable
+pub mod Length

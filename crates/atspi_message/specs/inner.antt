@@ -2,3 +2,4 @@
 pub mod FieldsView
 pub mod Reading
 pub mod Writing
+pub mod Ends

@@ -1,11 +1,11 @@
 -- What lies in bytes, written again.
-use Rattle.std.proofs.Common.{◌≡◌, ℕ, ◌+◌, ◌-◌, ◌%◌, ◌≤◌, List, ◌++◌, length, take, drop, Option, Some, None, Result, Err, Bool, true, false, sym, ap, subst, ◌∙◌, arith}
+use Rattle.std.proofs.Common.{◌≡◌, ℕ, ◌+◌, ◌-◌, ◌%◌, ◌<◌, ◌≤◌, ◌^◌, List, [], ◌∷◌, ◌++◌, length, take, drop, Option, Some, None, Result, Err, Bool, true, false, refl, sym, ap, subst, ◌∙◌, arith}
 use Rattle.std.specs.Prelude.{IfSome, IsErrOf}
 use Rattle.std.specs.Int.{w32}
 use Rattle.std.specs.Coded.{Coded-set, coded_list, coded_ℕ, le_prop}
 use Rattle.std.proofs.Math.Logic.{∥∥₁_elim, ∥∥₁_map}
 use Rattle.std.specs.Borrow.{Bor}
-use Rattle.atspi_types.specs.Kinds.{Kind, Kinds, kinds_of}
+use Rattle.atspi_types.specs.Kinds.{Kind, Kinds, no_kinds, kinds_of}
 use Rattle.atspi_types.specs.Signatures.{signature_bytes, FitsSignature, IsSignature}
 use Rattle.atspi_types.specs.Data.{Data, items_of, types_of}
 use Rattle.atspi_base.specs.valid_names.Names.{is_path, is_interface, is_member, is_bus_name, IsPath, IsInterface, IsMember, IsBusName}
@@ -13,22 +13,28 @@ use Rattle.atspi_base.proofs.OfValidNames.NameLemmas.{IsPath-from_test, IsInterf
 use Rattle.atspi_types.specs.declared.fault.Order.{Order}
 use Rattle.atspi_marshal.specs.declared.writing.fault.WriteFault.{WriteFault}
 use Rattle.atspi_marshal.specs.declared.writing.fault.WriteFault.TheVariants as faults
-use Rattle.atspi_marshal.specs.Input.{number_bytes}
+use Rattle.atspi_marshal.specs.Input.{number_bytes, aligned}
 use Rattle.atspi_marshal.specs.Spelling.{padding, counted_short, spellings, FieldsFit}
 use Rattle.atspi_marshal.specs.Writing.{IsWritten, Writes, IsPadded}
 use Rattle.atspi_marshal.specs.Reading.{input_of}
 use Rattle.atspi_marshal.proofs.WritingSteps.{padding_one, Writes-by, Writes-refused}
 use Rattle.atspi_marshal_in_place.specs.Items.{fields_data, fields_kinds}
 use Rattle.atspi_marshal_in_place.specs.declared.cursor.Fields.{Fields}
+use Rattle.atspi_marshal_in_place.proofs.OfCodes.Spelled.{all_is}
 use Rattle.atspi_message.specs.Codes.{IsText, IsNameFor}
 use Rattle.atspi_message.specs.inner.Reading.{is_name}
 use Rattle.atspi_message.specs.Rules.{MeetsRules, HasNames}
+use Rattle.atspi_message.specs.Spellable.{IsSpellable}
+use Rattle.atspi_message.specs.inner.Ends.{types_end}
 use Rattle.atspi_message.specs.Envelope.{Envelope}
-use Rattle.atspi_message.specs.Bytes.{FitsWire, IsMessage, rising_fields, written}
+use Rattle.atspi_message.specs.Bytes.{FitsWire, IsMessage, body_place, body_bytes, rising_fields, written}
 use Rattle.atspi_message.specs.inner.Writing.{start_bytes, fields_bytes, HeaderFits, HasWidths}
 use Rattle.atspi_message.proofs.MessageWriting.{Parts, message_written, message_fits, body_refused}
 use Rattle.atspi_message.proofs.Names.{name_from_test}
 use Rattle.atspi_message.proofs.Rising.{written_is}
+use Rattle.atspi_message.proofs.Sitting.{fields_sit}
+use Rattle.atspi_message.proofs.Short.{unfit_long}
+use Rattle.atspi_message.proofs.Lengths.{body_even}
 use Rattle.atspi_message_in_place.specs.Bodies.{IsBody}
 use Rattle.atspi_message_in_place.specs.Names.{fits}
 use Rattle.atspi_message_in_place.specs.View.{bytes_of, envelope_at}
@@ -128,3 +134,41 @@ body_too_big {T} e old header padded new end place f h p w =
     let s = spellings e.order place ds in
     let P = FieldsFit e.order 64 place ds (types_of ds) in
     body_refused {T = T} e old header padded new end place f h p (Writes-refused (Unit {0}) P s s place place padded new padded new f (λ (q : P). tt) (omega arith) w)
+
+-- what keeps the rules where it lies and passes a limit of the wire is long
+spellable : (m : MessageRef) → MeetsRules (envelope_at m) → HasWidths (envelope_at m) → IfSome m.reply (λ n. n < 2 ^ 32) → IsBody m.order (fields_data m.body) m.body_bytes.now → IsSpellable (envelope_at m)
+spellable m meets widths reply is =
+    let e = envelope_at m in
+    record {
+      meets = meets;
+      named = names_of m;
+      kind = widths.kind;
+      flags = widths.flags;
+      serial = widths.serial;
+      reply = reply;
+      types = subst (λ (ks : Kinds). IsSignature ks) (sym (body_types m.body)) (all_is m.body.types.codes.now m.body.types.all).within;
+      body = fields_sit (items_of e.body) e.order 64 is.place meets.body is.fits;
+    }
+
+pub unfit_is_long : (m : MessageRef) → MeetsRules (envelope_at m) → HasWidths (envelope_at m) → IfSome m.reply (λ n. n < 2 ^ 32) → (FitsWire (envelope_at m) (rising_fields (envelope_at m)) → ⊥)
+    → 67108864 < length (written (envelope_at m))
+unfit_is_long m meets widths reply unfit =
+    ∥∥₁_elim m.lies (hlevel (le_prop)) (λ (is : IsBody m.order (fields_data m.body) m.body_bytes.now). unfit_long (envelope_at m) (spellable m meets widths reply is) unfit)
+
+-- how long the body is that lies there
+pub body_length : (e : Envelope) (bytes : List ℕ) → ∥ IsBody e.order e.body bytes ∥₁ → length (body_bytes e (rising_fields e)) ≡ length bytes
+unfolding body_bytes
+body_length e bytes lies =
+    let place = body_place e.order (rising_fields e) in
+    let body = spellings e.order place (items_of e.body) in
+    let same : bytes ≡ body = ∥∥₁_elim lies (Coded-set (coded_list coded_ℕ) bytes body) (λ (is : IsBody e.order e.body bytes). is.spelled ∙ same_spellings e.order (items_of e.body) is.place place (is.even ∙ sym (body_even e))) in
+    sym (ap length same)
+
+-- where its types end
+pub no_types_end : (at : ℕ) (ds : List Data) → types_of (items_of ds) ≡ no_kinds → at ≡ types_end at ds
+no_types_end at [] e = refl
+no_types_end at (d ∷ ds) e = absurd cc
+
+pub some_types_end : (at : ℕ) (ds : List Data) (codes : List ℕ) → 0 < length ds → codes ≡ signature_bytes (types_of (items_of ds)) → aligned 8 at + 6 + length codes ≡ types_end at ds
+some_types_end at [] codes some e = absurd (omega (arith, some))
+some_types_end at (d ∷ ds) codes some e = ap (λ (bs : List ℕ). aligned 8 at + 6 + length bs) e

@@ -4,7 +4,11 @@
 
 mod field;
 mod fields;
+mod length;
 pub mod readings;
+mod text_lists;
 mod writing;
 
+pub use length::written_length;
+pub use text_lists::list_length;
 pub use writing::write_from;

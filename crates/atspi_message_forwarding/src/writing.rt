@@ -1,6 +1,6 @@
 //! Writing a message that lies in bytes.
 
-ghost use Rattle.std.specs.Prelude.{◌≡◌, ◌≤◌, ◌%◌, ◌++◌, [], length, take, IfOk, OnOk, IsErrOf};
+ghost use Rattle.std.specs.Prelude.{◌≡◌, ◌<◌, ◌≤◌, ◌^◌, ◌%◌, ◌++◌, [], length, take, IfOk, IfSome, OnOk, IsErrOf};
 ghost use Rattle.atspi_types.specs.Data.{items_of, AreWellTyped};
 ghost use Rattle.atspi_marshal.specs.Spelling.{spellings};
 ghost use Rattle.atspi_marshal.specs.Writing.{Writes};
@@ -103,6 +103,7 @@ fn put_message(m: &MessageRef, out: &mut Bytes) -> Result<(), WriteFault>
     ensures ok { OnOk result (out.new ≡ out.old ++ written (envelope_at m.now)) }
     ensures fits { OnOk result ∥ FitsWire (envelope_at m.now) (rising_fields (envelope_at m.now)) ∥₁ }
     ensures big { IsErrOf result WriteFault.Big → ¬ FitsWire (envelope_at m.now) (rising_fields (envelope_at m.now)) }
+    ensures widths { HasWidths (envelope_at m.now) }
 {
     let end = put_header(m, out)?;
     let index = out.len() - end + 4;
@@ -112,11 +113,27 @@ fn put_message(m: &MessageRef, out: &mut Bytes) -> Result<(), WriteFault>
     Ok(())
 }
 
+/// A law: a serial is a number of 32 bits.
+fn is_in_width(serial: u32)
+    ensures { serial < 2 ^ 32 }
+{
+    let _ = serial;
+}
+
+/// A law: the serial that a message replies to is one.
+fn replies_to_serial(m: &MessageRef)
+    ensures { IfSome (envelope_at m.now).reply (λ n. n < 2 ^ 32) }
+{
+    if let Some(serial) = m.reply {
+        is_in_width(serial);
+    }
+}
+
 /// The written form of the message that lies in bytes (D-Bus Specification, "Message Format"), as `Message::write`
 /// appends it for the same message, owned: the fields in rising order of their codes, each only where it is there,
 /// SIGNATURE where the body is not empty, and UNIX_FDS never. No value is made: the body's bytes are copied as they
 /// lie. `Big` where the fields pass 67,108,864 bytes or the message passes 134,217,728, as one that just fits may where
-/// its sender is another.
+/// its sender is another; more than 67,108,864 bytes would then be written.
 pub fn write_from(alloc: Global, m: &MessageRef) -> Result<Bytes, WriteFault>
     requires { MeetsRules (envelope_at m.now) }
     ensures bytes { IfOk result (λ bytes. bytes ≡ written (envelope_at m.now)) }
@@ -124,8 +141,12 @@ pub fn write_from(alloc: Global, m: &MessageRef) -> Result<Bytes, WriteFault>
     ensures message { IfOk result (λ bytes. ∥ IsMessage (envelope_at m.now) bytes ∥₁) }
     ensures short { IfOk result (λ bytes. length bytes ≤ 134217728) }
     ensures big { IsErrOf result WriteFault.Big → ¬ FitsWire (envelope_at m.now) (rising_fields (envelope_at m.now)) }
+    ensures long { IsErrOf result WriteFault.Big → 67108864 < length (written (envelope_at m.now)) }
 {
+    replies_to_serial(m);
     let mut out = with_room(alloc, room(m))?;
-    put_message(m, &mut out)?;
-    Ok(out)
+    match put_message(m, &mut out) {
+        Ok(()) => Ok(out),
+        Err(fault) => Err(fault),
+    }
 }

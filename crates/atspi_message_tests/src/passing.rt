@@ -1,18 +1,23 @@
 //! Messages that are passed on: what is written of one that lies in bytes.
 
 ghost use Rattle.std.specs.Prelude.{IfSome};
+ghost use Rattle.atspi_types.specs.Data.{items_of, AreWellTyped};
+ghost use Rattle.atspi_types.specs.DataView.{all_data};
+ghost use Rattle.atspi_message.specs.Envelope.{envelope_of};
 ghost use Rattle.atspi_message.specs.Rules.{MeetsRules};
 ghost use Rattle.atspi_message_in_place.specs.View.{envelope_at};
 
 use crate::samples::{
     CALL_BIG, CALL_BIG_PASSED, CALL_BIG_SENT, CALL_LITTLE, CALL_LITTLE_PASSED, CALL_LITTLE_SENT,
 };
-use atspi_base::Bytes;
 use atspi_base::valid_names::BusName;
-use atspi_message::total;
-use atspi_message_forwarding::write_from;
+use atspi_base::{Bytes, Text};
+use atspi_message::{Message, total};
+use atspi_message_forwarding::{list_length, write_from, written_length};
 use atspi_message_in_place::MessageRef;
+use atspi_types::{Order, Ty, Value, Values};
 use std::alloc::Global;
+use std::process::Abort;
 use std::test::*;
 
 /// The message that bytes are, where they are one.
@@ -49,12 +54,12 @@ fn with_sender<'a>(m: &MessageRef<'a>, name: &'a BusName) -> MessageRef<'a>
     }
 }
 
-/// Whether the message is passed on as these bytes.
+/// Whether the message is passed on as these bytes, and is known before to have so many.
 pub(crate) fn is_passed(alloc: Global, m: &MessageRef, due: &[u8]) -> bool
     requires { MeetsRules (envelope_at m.now) }
 {
     match write_from(alloc, m) {
-        Ok(passed) => passed.as_slice() == due,
+        Ok(passed) => passed.as_slice() == due && written_length(m) as usize == due.len(),
         Err(_) => false,
     }
 }
@@ -89,4 +94,80 @@ fn are_sent(alloc: Global, name: &BusName) -> bool {
 fn a_message_is_passed_on_with_its_sender(rt: HostRuntime) {
     let sent = BusName::read(rt.alloc(), b":1.5").is_ok_and(|name| are_sent(rt.alloc(), &name));
     assert!(rt; sent);
+}
+
+/// A return of values.
+fn return_of(order: Order, destination: Option<BusName>, body: Values) -> Message
+    requires { AreWellTyped (items_of (all_data body)) }
+    ensures { MeetsRules (envelope_of result) }
+{
+    Message {
+        order,
+        kind: 2,
+        flags: 1,
+        serial: 7,
+        path: None,
+        interface: None,
+        member: None,
+        error: None,
+        reply: Some(9),
+        destination,
+        sender: None,
+        body,
+    }
+}
+
+/// A text of a list.
+fn short_text(alloc: Global, text: &str) -> Option<Text> {
+    let bytes = text.as_bytes();
+    if bytes.len() > 255 {
+        return None;
+    }
+    Text::read(alloc, bytes).ok()
+}
+
+/// A body that is one list of texts.
+fn list_of(alloc: Global, texts: &str) -> Option<Values> {
+    let mut items = Values::new(alloc);
+    for text in texts.split(' ') {
+        items.push(Value::Text(short_text(alloc, text)?)).ok()?;
+    }
+    let mut body = Values::new(alloc);
+    body.push(Value::Array(Ty::Text, items)).ok()?;
+    Some(body)
+}
+
+/// Whether a return of a list of these texts is known to have as many bytes as are written of it.
+fn is_counted(rt: &impl Abort, alloc: Global, order: Order, to: &[u8], texts: &str) -> bool {
+    let body = list_of(alloc, texts).expect(rt, "memory");
+    assert!(rt; body.are_well_typed());
+    let message = return_of(order, BusName::read(alloc, to).ok(), body);
+    let mut bytes = Bytes::new(alloc);
+    message.write(&mut bytes).is_ok()
+        && list_length(&message).is_some_and(|len| len as usize == bytes.as_slice().len())
+}
+
+#[test]
+fn a_list_of_names_has_as_many_bytes_as_are_written(rt: HostRuntime) {
+    let alloc = rt.alloc();
+    for texts in [
+        "",
+        "a",
+        "abc abcd",
+        "  a",
+        ":1.0 :1.10 org.freedesktop.DBus",
+        "abcdefgh  i",
+    ] {
+        assert!(rt; is_counted(&rt, alloc, Order::Little, b":1.5", texts));
+        assert!(rt; is_counted(&rt, alloc, Order::Big, b":1.12345", texts));
+        assert!(rt; is_counted(&rt, alloc, Order::Little, b"", texts));
+    }
+}
+
+#[test]
+fn of_another_body_nothing_is_known(rt: HostRuntime) {
+    let alloc = rt.alloc();
+    let body = Values::new(alloc);
+    assert!(rt; body.are_well_typed());
+    assert!(rt; list_length(&return_of(Order::Little, None, body)).is_none());
 }

@@ -30,7 +30,7 @@ use Rattle.atspi_match.specs.routing.Members.{member_of}
 use Rattle.atspi_match.specs.routing.OwnMessages.{signal, return_to, owner_changed}
 use Rattle.atspi_match.specs.routing.Steps.{Move, says, delivers, closes, BusStep, bus_takes, bus_joins}
 use Rattle.atspi_match.specs.routing.Queues as queues
-use Rattle.atspi_match.specs.routing.Queues.{Waiting, Bus, or_nothing, queue_of, queued, doomed, empty_bus}
+use Rattle.atspi_match.specs.routing.Queues.{Waiting, Bus, or_nothing, queue_of, queued, doomed, empty_bus, told_length}
 use Rattle.atspi_bus_answers.specs.Answered.{IsSpokenOf}
 use Rattle.atspi_bus_steps.specs.Spoken.{IsRuleNamed}
 use Rattle.atspi_world_links.specs.declared.post.Post.{Post}
@@ -86,8 +86,8 @@ one_more : (quota : ℕ) (bytes more : List ℕ) → length bytes + length more 
 one_more quota bytes more fits =
     let m : FinMap nat_cmp (List ℕ) = finmap.from_sorted ((0, bytes) ∷ []) in
     let there : queue_of m 0 ≡ bytes = ap or_nothing (numbers_get ((0, bytes) ∷ []) 0 refl) in
-    ap (λ q. if nat_lt quota (length q + length more) then doomed (one_queue bytes) 0 (Quota (length q) (length more)) else record (one_queue bytes) { queues = finmap.insert m 0 (q ++ more) }) there
-    ∙ ap (λ b. if b then doomed (one_queue bytes) 0 (Quota (length bytes) (length more)) else record (one_queue bytes) { queues = finmap.insert m 0 (bytes ++ more) }) (within_quota quota (length bytes + length more) fits)
+    ap (λ q. if nat_lt quota (length q + length more) then doomed (one_queue bytes) 0 (Quota (length q) (told_length more)) else record (one_queue bytes) { queues = finmap.insert m 0 (q ++ more) }) there
+    ∙ ap (λ b. if b then doomed (one_queue bytes) 0 (Quota (length bytes) (told_length more)) else record (one_queue bytes) { queues = finmap.insert m 0 (bytes ++ more) }) (within_quota quota (length bytes + length more) fits)
     ∙ ap (λ q. record (one_queue bytes) { queues = q }) (numbers_insert ((0, bytes) ∷ []) 0 (bytes ++ more) refl)
 
 all_queued : (quota : ℕ) (bytes : List ℕ) (ms : List Move) → OnlyFirst ms → length bytes + length (handed ms) ≤ quota → fold (queues.moved quota) (one_queue bytes) ms ≡ one_queue (bytes ++ handed ms)

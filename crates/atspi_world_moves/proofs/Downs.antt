@@ -20,7 +20,7 @@ use Rattle.atspi_match.specs.declared.routing.closing.Why.TheVariants.{NotHello,
 use Rattle.atspi_match.specs.routing.Members.{is_text}
 use Rattle.atspi_match.specs.routing.Steps.{Move, says, delivers, closes, BusStep, bus_takes, bus_leaves}
 use Rattle.atspi_match.specs.routing.Queues as queues
-use Rattle.atspi_match.specs.routing.Queues.{Waiting, or_nothing, queue_of, is_due, doomed}
+use Rattle.atspi_match.specs.routing.Queues.{Waiting, or_nothing, queue_of, is_due, doomed, told_length}
 use Rattle.atspi_trace.specs.Rules.{rule_in}
 use Rattle.atspi_trace.specs.World.{Said, Letter, End}
 use Rattle.atspi_trace.specs.Ends.{end_at, with_end, put_down, taken_up, leaves}
@@ -107,7 +107,7 @@ not_grown n = by (nat_lt n n) refl
 -- the queues after a delivery, by whether its connection is to be closed, and whether its queue is full
 abbrev after_delivery : Waiting → ℕ → Envelope → Bool → Bool → Waiting
 after_delivery w k m due full =
-    if due then w else if full then doomed w k (Quota (length (queue_of w.queues k)) (length (written m))) else record w { queues = with_bytes w.queues k m }
+    if due then w else if full then doomed w k (Quota (length (queue_of w.queues k)) (told_length (written m))) else record w { queues = with_bytes w.queues k m }
 
 module _ (letter : Envelope → Letter) (is_it : (m : Envelope) → (letter m).said.message ≡ m) where
   -- one delivery, by what becomes of the queue
@@ -140,8 +140,8 @@ module _ (letter : Envelope → Letter) (is_it : (m : Envelope) → (letter m).s
       by : (due full : Bool) → Wait (after_delivery f.waiting k m due full).queues (if grew k f.waiting (after_delivery f.waiting k m due full) then with_end k (put_down (letter m)) f.ends else f.ends)
       by true full = kept k m f.waiting f.waiting f.ends refl w
       by false true =
-          let d : Waiting = doomed f.waiting k (Quota (length (queue_of f.waiting.queues k)) (length (written m))) in
-          kept k m f.waiting d f.ends (doomed_queues f.waiting k (Quota (length (queue_of f.waiting.queues k)) (length (written m)))) w
+          let d : Waiting = doomed f.waiting k (Quota (length (queue_of f.waiting.queues k)) (told_length (written m))) in
+          kept k m f.waiting d f.ends (doomed_queues f.waiting k (Quota (length (queue_of f.waiting.queues k)) (told_length (written m)))) w
       by false false = grown k m f.waiting (record f.waiting { queues = finmap.insert f.waiting.queues k (queue_of f.waiting.queues k ++ written m) }) f.ends refl w
 
   moves_wait : (quota : ℕ) (f : Filled) (move : Move) → Wait f.waiting.queues f.ends → Wait (moved letter quota f move).waiting.queues (moved letter quota f move).ends

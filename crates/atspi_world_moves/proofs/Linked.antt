@@ -20,7 +20,7 @@ use Rattle.atspi_trace.specs.World.{here, Role, Said, Letter, End, World, newcom
 use Rattle.atspi_trace.specs.Ends.{same_party, end_at, with_end, put_down, put_up, taken_up, leaves, stops}
 use Rattle.atspi_trace.specs.Carrying.{Carried, Filled, letter_of, own_letter, grew, with_letter, moved, stepped, left, one_closed, settled, named, with_name, takes, takes_end}
 use Rattle.atspi_trace.specs.Causes.{joins, does, on_end, routed, routes, unjoins, exits, bus_did}
-use Rattle.atspi_bus_laws.specs.handed.Spellable.{IsSpellable}
+use Rattle.atspi_message.specs.Spellable.{IsSpellable}
 use Rattle.atspi_bus_laws.specs.handed.Handing.{IsLetter, AreLetters}
 use Rattle.atspi_bus_laws.specs.handed.Naming.{IsSigned, HasLeft, AreNamed}
 use Rattle.atspi_bus_laws.proofs.OfHanded.Handing.{takes_hands, ends_hands}

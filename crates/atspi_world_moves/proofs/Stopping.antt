@@ -9,15 +9,11 @@ use Rattle.atspi_world_moves.specs.declared.fault.CarryFault.TheVariants.{Spent,
 use Rattle.atspi_world_moves.specs.Faults.{of_bus}
 
 pub spent_is : (f : BusFault) → of_bus f ≡ Spent → f ≡ bus.Spent
-spent_is bus.Full h = absurd cc
 spent_is bus.Spent h = refl
-spent_is bus.Big h = absurd cc
 spent_is bus.NoMemory h = absurd cc
 
 pub never_lost : (f : BusFault) → of_bus f ≡ RegistryLost → ⊥
-never_lost bus.Full h = absurd cc
 never_lost bus.Spent h = absurd cc
-never_lost bus.Big h = absurd cc
 never_lost bus.NoMemory h = absurd cc
 
 module _ {T : Type 0} where

@@ -9,9 +9,7 @@ use Rattle.atspi_world_moves.specs.declared.fault.CarryFault.{CarryFault}
 use Rattle.atspi_world_moves.specs.declared.fault.CarryFault.TheVariants.{Spent, Unsendable, NoMemory}
 
 abbrev pub of_bus : BusFault → CarryFault
-of_bus bus.Full = Unsendable
 of_bus bus.Spent = Spent
-of_bus bus.Big = Unsendable
 of_bus bus.NoMemory = NoMemory
 
 abbrev pub of_send : SendFault → CarryFault

@@ -57,9 +57,7 @@ impl From<BusFault> for CarryFault {
 
     fn from(fault: BusFault) -> CarryFault {
         match fault {
-            BusFault::Full => CarryFault::Unsendable,
             BusFault::Spent => CarryFault::Spent,
-            BusFault::Big => CarryFault::Unsendable,
             BusFault::NoMemory => CarryFault::NoMemory,
         }
     }

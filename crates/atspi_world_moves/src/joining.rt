@@ -1,6 +1,6 @@
 //! The beginning, and joining.
 
-ghost use Rattle.std.specs.Prelude.{◌≡◌, [], length, OnOk, OnErr, IfOk, IsErrOf};
+ghost use Rattle.std.specs.Prelude.{◌≡◌, min, [], length, OnOk, OnErr, IfOk, IsErrOf};
 ghost use Rattle.atspi_script_lines.specs.declared.line.Party.TheVariants as parties;
 ghost use Rattle.atspi_bus_steps.specs.InnerBus.{inner_of, state_of};
 ghost use Rattle.atspi_bus_steps.specs.Sound.{IsSound};
@@ -13,16 +13,16 @@ ghost use Rattle.atspi_world_moves.specs.Linked.{IsLinked};
 
 use crate::carrier::Carrier;
 use crate::fault::CarryFault;
-use atspi_bus_steps::{BusFault, Inner};
+use atspi_bus_steps::{Inner, JoinFault};
 use atspi_script_lines::Party;
 use atspi_world_links::{Link, Post};
 use std::alloc::Global;
 
 impl Carrier {
-    /// A bus with this quota, to which nobody has joined; nothing was told.
+    /// A bus with this quota, at most 67,108,864, to which nobody has joined; nothing was told.
     pub fn new(alloc: Global, quota: u32) -> Carrier
         ensures sound { IsSound (state_of result.bus) }
-        ensures bus { inner_of result.bus ≡ empty_bus quota }
+        ensures bus { inner_of result.bus ≡ empty_bus (min quota 67108864) }
         ensures posts { result.posts.items ≡ [] }
         ensures given { result.at_end.items ≡ [] }
         ensures trace { result.trace.items ≡ [] }
@@ -36,10 +36,10 @@ impl Carrier {
         }
     }
 
-    /// The bus is made anew with this quota, and nobody has joined; what was told stays.
+    /// The bus is made anew with this quota, at most 67,108,864, and nobody has joined; what was told stays.
     pub fn renew(&mut self, quota: u32)
         ensures sound { IsSound (state_of self.new.bus) }
-        ensures bus { inner_of self.new.bus ≡ empty_bus quota }
+        ensures bus { inner_of self.new.bus ≡ empty_bus (min quota 67108864) }
         ensures posts { self.new.posts.items ≡ [] }
         ensures given { self.new.at_end.items ≡ [] }
         ensures trace { self.new.trace ≡ self.old.trace }
@@ -80,8 +80,8 @@ impl Carrier {
                 self.at_end.push_reserved(Link::new(self.alloc));
                 Ok(conn)
             }
-            Err(BusFault::NoMemory) => Err(CarryFault::NoMemory),
-            Err(BusFault::Full | BusFault::Spent | BusFault::Big) => Err(CarryFault::Unsendable),
+            Err(JoinFault::NoMemory) => Err(CarryFault::NoMemory),
+            Err(JoinFault::Full) => Err(CarryFault::Unsendable),
         }
     }
 

@@ -170,7 +170,7 @@ removes_is s conn (Some rule) k =
 
 id_plain : IsPlain bus_id
 unfolding lib.Utf8.encode
-id_plain = (refl, refl)
+id_plain = ((refl, refl), omega arith)
 
 pub answers_is : (member : BusMember) (s : BusState) (conn : ℕ) (args : List Data) (rule : Option (List Condition)) → AreKnown s.owners s.calls s.next → IsAnswer s.calls s.next (answers member s conn args rule)
 answers_is Hello s conn args rule k = only_is s (fails (codes "Failed")) k failed_is

@@ -13,15 +13,15 @@ use Rattle.atspi_match.specs.declared.routing.closing.Why.TheVariants.{Quota}
 use Rattle.atspi_match.specs.routing.BusState.{BusState, unique_of}
 use Rattle.atspi_match.specs.routing.Members.{is_text}
 use Rattle.atspi_match.specs.routing.Steps.{Move, says, delivers, closes, BusStep, farewell, bus_takes, bus_leaves}
-use Rattle.atspi_match.specs.routing.Queues.{Waiting, queue_of, is_due, doomed, without_queue}
+use Rattle.atspi_match.specs.routing.Queues.{Waiting, queue_of, is_due, doomed, without_queue, told_length}
 use Rattle.atspi_trace.specs.Rules.{rule_in}
 use Rattle.atspi_trace.specs.World.{Said, Letter, End}
 use Rattle.atspi_trace.specs.Ends.{with_end, put_down, taken_up, leaves}
 use Rattle.atspi_trace.specs.Carrying.{Carried, Filled, letter_of, own_letter, grew, moved, stepped, left, one_closed, settled, named, with_name, takes, takes_end}
-use Rattle.atspi_bus_laws.specs.handed.Spellable.{IsSpellable}
+use Rattle.atspi_message.specs.Spellable.{IsSpellable}
 use Rattle.atspi_bus_laws.specs.handed.Handing.{IsLetter, AreLetters, HandsLetters}
 use Rattle.atspi_bus_laws.proofs.OfHanded.Lists.{all_append}
-use Rattle.atspi_bus_laws.proofs.OfHanded.Short.{short_spelled}
+use Rattle.atspi_message.proofs.Short.{short_spelled}
 use Rattle.atspi_bus_laws.proofs.OfHanded.Steps.{HandsOn, signer, takes_done, leaves_done}
 
 abbrev Letters : List End → Type 0
@@ -51,7 +51,7 @@ doomed_queues w k why = by (is_due k w.due)
 abbrev after_delivery : Waiting → ℕ → Envelope → Bool → Bool → Waiting
 after_delivery w k m due full =
     if due then w
-    else if full then doomed w k (Quota (length (queue_of w.queues k)) (length (written m)))
+    else if full then doomed w k (Quota (length (queue_of w.queues k)) (told_length (written m)))
     else record w { queues = finmap.insert w.queues k (queue_of w.queues k ++ written m) }
 
 module _ (letter : Envelope → Letter) (is_it : (m : Envelope) → (letter m).said.message ≡ m) where
@@ -75,7 +75,7 @@ module _ (letter : Envelope → Letter) (is_it : (m : Envelope) → (letter m).s
           → Letters (if grew k f.waiting (after_delivery f.waiting k m due full) then with_end k (put_down (letter m)) f.ends else f.ends)
       by true full e = kept k m f.waiting f.waiting f.ends refl a
       by false true e =
-          let why = Quota (length (queue_of f.waiting.queues k)) (length (written m)) in
+          let why = Quota (length (queue_of f.waiting.queues k)) (told_length (written m)) in
           kept k m f.waiting (doomed f.waiting k why) f.ends (doomed_queues f.waiting k why) a
       by false false e =
           let room = ltb-false quota (length (queue_of f.waiting.queues k) + length (written m)) e in

@@ -1,5 +1,5 @@
 -- Names of the bus as texts, and that those that a bus knows keep their rules.
-use Rattle.std.proofs.Common.{◌≡◌, ℕ, Bool, true, false, List, [], ◌++◌, Option, None, Some, refl, sym, ap, subst, ◌∙◌, encode_utf8_all, arith}
+use Rattle.std.proofs.Common.{◌≡◌, ℕ, Bool, true, false, ◌≤◌, List, [], ◌++◌, length, Option, None, Some, refl, sym, ap, subst, ◌∙◌, encode_utf8_all, arith}
 use Rattle.std.specs.Prelude.{IfSome, not, codes}
 use Rattle.std.specs.List.{AllByRecursion}
 use Rattle.std.specs.Str.{all_scalars}
@@ -19,17 +19,18 @@ use Rattle.atspi_bus_laws.specs.owners.Orderly.{IsOrderly}
 use Rattle.atspi_match.specs.routing.BusState.{unique_of, text_or_empty, name_or_empty}
 use Rattle.atspi_match.specs.routing.OwnMessages.{own_path, error_prefix}
 use Rattle.atspi_bus_laws.proofs.OfHanded.Lists.{all_append, all_filter, all_map, all_weaker, all_entries}
-use Rattle.atspi_bus_laws.proofs.OfHanded.Short.{name_sits}
+use Rattle.atspi_message.proofs.Names.{name_spells}
+use Rattle.atspi_message.proofs.Short.{name_sits}
 
--- a text that can be written
+-- a text that can be written, and is short
 abbrev pub IsPlain : List ℕ → Type 0
-IsPlain cs = (all_scalars cs ≡ true) × HasNoZero (encode_utf8_all cs)
+IsPlain cs = ((all_scalars cs ≡ true) × HasNoZero (encode_utf8_all cs)) × (length (encode_utf8_all cs) ≤ 255)
 
 pub plain_none : IsPlain []
-plain_none = (refl, refl)
+plain_none = ((refl, refl), omega arith)
 
 pub plain_name : (name : List ℕ) → IsBusName name → IsPlain name
-plain_name name h = name_sits code.Sender name h
+plain_name name h = (name_sits code.Sender name h, omega (arith, ap length (name_spells code.Sender name h), h.short))
 
 -- the bus's own words
 path_test : is_path own_path ≡ true
@@ -80,43 +81,43 @@ error_named name h = IsInterface-from_test (error_prefix ++ name) h.interface
 
 pub failed_is : IsError (codes "Failed")
 unfolding is_interface are_two_or_more are_elements parts_of lib.Utf8.encode
-failed_is = record { interface = refl; plain = (refl, refl) }
+failed_is = record { interface = refl; plain = ((refl, refl), omega arith) }
 
 pub args_is : IsError (codes "InvalidArgs")
 unfolding is_interface are_two_or_more are_elements parts_of lib.Utf8.encode
-args_is = record { interface = refl; plain = (refl, refl) }
+args_is = record { interface = refl; plain = ((refl, refl), omega arith) }
 
 pub limits_is : IsError (codes "LimitsExceeded")
 unfolding is_interface are_two_or_more are_elements parts_of lib.Utf8.encode
-limits_is = record { interface = refl; plain = (refl, refl) }
+limits_is = record { interface = refl; plain = ((refl, refl), omega arith) }
 
 pub rule_is : IsError (codes "MatchRuleInvalid")
 unfolding is_interface are_two_or_more are_elements parts_of lib.Utf8.encode
-rule_is = record { interface = refl; plain = (refl, refl) }
+rule_is = record { interface = refl; plain = ((refl, refl), omega arith) }
 
 pub rule_lost_is : IsError (codes "MatchRuleNotFound")
 unfolding is_interface are_two_or_more are_elements parts_of lib.Utf8.encode
-rule_lost_is = record { interface = refl; plain = (refl, refl) }
+rule_lost_is = record { interface = refl; plain = ((refl, refl), omega arith) }
 
 pub owner_lost_is : IsError (codes "NameHasNoOwner")
 unfolding is_interface are_two_or_more are_elements parts_of lib.Utf8.encode
-owner_lost_is = record { interface = refl; plain = (refl, refl) }
+owner_lost_is = record { interface = refl; plain = ((refl, refl), omega arith) }
 
 pub no_reply_is : IsError (codes "NoReply")
 unfolding is_interface are_two_or_more are_elements parts_of lib.Utf8.encode
-no_reply_is = record { interface = refl; plain = (refl, refl) }
+no_reply_is = record { interface = refl; plain = ((refl, refl), omega arith) }
 
 pub service_is : IsError (codes "ServiceUnknown")
 unfolding is_interface are_two_or_more are_elements parts_of lib.Utf8.encode
-service_is = record { interface = refl; plain = (refl, refl) }
+service_is = record { interface = refl; plain = ((refl, refl), omega arith) }
 
 pub unknown_interface_is : IsError (codes "UnknownInterface")
 unfolding is_interface are_two_or_more are_elements parts_of lib.Utf8.encode
-unknown_interface_is = record { interface = refl; plain = (refl, refl) }
+unknown_interface_is = record { interface = refl; plain = ((refl, refl), omega arith) }
 
 pub unknown_method_is : IsError (codes "UnknownMethod")
 unfolding is_interface are_two_or_more are_elements parts_of lib.Utf8.encode
-unknown_method_is = record { interface = refl; plain = (refl, refl) }
+unknown_method_is = record { interface = refl; plain = ((refl, refl), omega arith) }
 
 -- unique names
 given_name : (o : Owners) → IsOrderly o → (conn : ℕ) (name : List ℕ) → unique_of o conn ≡ Some name → IsBusName name

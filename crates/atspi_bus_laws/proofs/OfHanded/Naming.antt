@@ -15,7 +15,7 @@ use Rattle.atspi_trace.specs.Rules.{rule_in}
 use Rattle.atspi_trace.specs.World.{Said, Letter, End}
 use Rattle.atspi_trace.specs.Ends.{end_at, with_end, put_down, taken_up, leaves}
 use Rattle.atspi_trace.specs.Carrying.{Carried, Filled, letter_of, own_letter, grew, with_letter, moved, stepped, left, one_closed, settled, named, with_name, takes, takes_end}
-use Rattle.atspi_bus_laws.specs.handed.Spellable.{IsSpellable}
+use Rattle.atspi_message.specs.Spellable.{IsSpellable}
 use Rattle.atspi_bus_laws.specs.handed.Handing.{HandsLetters}
 use Rattle.atspi_bus_laws.specs.handed.Naming.{IsSigned, HasLeft, AreNamed}
 use Rattle.atspi_bus_laws.proofs.OfHanded.Steps.{Bears, HandsOn, signer, takes_done, leaves_done}

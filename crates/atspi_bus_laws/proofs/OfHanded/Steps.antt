@@ -18,21 +18,24 @@ use Rattle.atspi_match.specs.routing.OwnMessages.{return_to, error_to, name_acqu
 use Rattle.atspi_match.specs.routing.Members.{member_of}
 use Rattle.atspi_match.specs.routing.Answers.{Reply, returns, fails, Answer, only, answers}
 use Rattle.atspi_match.specs.routing.Routing.{receivers, is_for_bus, expects_reply, is_reply, with_call, without_answered, calls_after}
+use Rattle.atspi_match.specs.routing.Queues.{own_of}
 use Rattle.atspi_match.specs.routing.Steps.{Move, says, delivers, closes, BusStep, handed, speaks, replies, answered, called, undeliverable, is_unowned, calls_after_all, passes_on, takes_from_named, is_hello, greets, no_replies, name_passes_on, names_pass_on, farewell, bus_takes, bus_leaves}
-use Rattle.atspi_bus_laws.specs.handed.Spellable.{IsSpellable}
+use Rattle.atspi_message.specs.Spellable.{IsSpellable}
 use Rattle.atspi_bus_laws.specs.handed.Known.{IsSerial, AreKnown, IsKnown}
+use Rattle.atspi_bus_laws.specs.handed.Sizes.{IsShortOrList, OnlyListsAreLong}
 use Rattle.atspi_bus_laws.proofs.OfHanded.Lists.{all_append, all_filter, all_map}
-use Rattle.atspi_bus_laws.proofs.OfHanded.Short.{with_sender}
+use Rattle.atspi_message.proofs.Short.{with_sender}
 use Rattle.atspi_bus_laws.proofs.OfHanded.Names.{plain_none, plain_name, unique_is, plain_unique, plain_owner, owned_are, service_is, no_reply_is}
 use Rattle.atspi_bus_laws.proofs.OfHanded.Own.{MaySpell, text_body, spell_return, spell_error, spell_changed, spell_acquired}
 use Rattle.atspi_bus_laws.proofs.OfHanded.Answering.{IsReply, IsAnswer, only_is, names_with, answers_is, ErrorIs, member_error}
 
--- what is handed on can be written, and bears the bus's name, or that of who sent it
+-- what is handed on can be written, and bears the bus's name, or that of who sent it; and what is said is short or lists
+-- texts
 abbrev pub Bears : Option (List ℕ) → Envelope → Type 0
 Bears sender e = (e.sender ≡ Some own_name) ⊎ (e.sender ≡ sender)
 
 abbrev pub HandsOn : Option (List ℕ) → Move → Type 0
-HandsOn sender (says e) = Unit {0}
+HandsOn sender (says e) = IsShortOrList e
 HandsOn sender (delivers conn e) = IsSpellable e × Bears sender e
 HandsOn sender (closes conn) = Unit {0}
 
@@ -58,7 +61,7 @@ spoken sender s [] n a low high = tt
 spoken sender s (e ∷ es) n a low high =
     let it : Envelope = record e { serial = n } in
     let small : n < 2 ^ 32 = omega (arith, high) in (
-      tt,
+      a.0.sized n,
       all_append (HandsOn sender) (handed s it) (flat_map (λ m. says m ∷ handed s m) (numbered (n + 1) es)) (each_handed sender it (receivers s it) (a.0.spells n (not_zero n low, small)) (inl a.0.sender))
           (spoken sender s es (n + 1) a.1 (omega (arith, low)) (omega (arith, high))),
     )
@@ -257,3 +260,16 @@ leaves_done s conn k top =
       rules = without_rules conn s.rules;
       calls = calls_without conn s.calls;
     }) (farewell s after conn (unique_of s.owners conn)) (gone_known s conn k) (farewell_spell s conn k (unique_of s.owners conn) (unique_is s.owners k.orderly conn)) top
+
+-- what the bus says by itself
+own_sized : (sender : Option (List ℕ)) (moves : List Move) → AllByRecursion (HandsOn sender) moves → AllByRecursion IsShortOrList (own_of moves)
+own_sized sender [] h = tt
+own_sized sender (says e ∷ moves) h = (h.0, own_sized sender moves h.1)
+own_sized sender (delivers conn e ∷ moves) h = own_sized sender moves h.1
+own_sized sender (closes conn ∷ moves) h = own_sized sender moves h.1
+
+pub only_lists_long : OnlyListsAreLong
+only_lists_long = record {
+  taken = λ s conn e rule k h top. own_sized (signer (unique_of s.owners conn)) (bus_takes s conn e rule).moves (takes_done s conn e rule k h top).moves;
+  left = λ s conn k top. own_sized (Some own_name) (bus_leaves s conn).moves (leaves_done s conn k top).moves;
+}

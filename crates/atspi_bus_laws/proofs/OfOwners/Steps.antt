@@ -1,5 +1,5 @@
 -- Each call keeps the owners orderly.
-use Rattle.std.proofs.Common.{◌≡◌, ◌≢◌, ℕ, ◌+◌, ◌<◌, ◌≤◌, ◌^◌, Bool, true, false, cond, List, [], ◌∷◌, refl, sym, ap, subst, ◌∙◌, inl, inr, arith}
+use Rattle.std.proofs.Common.{◌≡◌, ◌≢◌, ℕ, ◌+◌, ◌<◌, ◌≤◌, ◌^◌, true, false, cond, List, [], ◌∷◌, refl, sym, ap, subst, ◌∙◌, inl, inr, arith}
 use Rattle.std.specs.Prelude.{Some, None, unwrap_or, ◌⊎◌, ◌==◌}
 use Rattle.std.proofs.lemmas.Bool.{eqb-true, eq-eqb}
 use Rattle.std.specs.Ordering.{nat_cmp, eq_by_cmp}
@@ -10,7 +10,7 @@ use Rattle.std.specs.FinMap as finmap
 use Rattle.std.specs.FinMap.{FinMap, get-empty, get-insert, get-remove}
 use Rattle.atspi_base.specs.valid_names.Names.{is_unique_name}
 use Rattle.atspi_names.specs.Queue.{requested, released, without, owner_in}
-use Rattle.atspi_names.specs.Owners.{Lists, Owners, list_of, with_list, lists_without, unique_name, NoneTooEarly, nobody, after_hello, after_request, after_release, after_gone}
+use Rattle.atspi_names.specs.Owners.{Owners, list_of, with_list, lists_without, unique_name, nobody, after_hello, after_request, after_release, after_gone}
 use Rattle.atspi_names.proofs.BookLemmas.{list_here, list_of-with_list, list_of-lists_without, by_test, same_conn, other_conn, same_name}
 use Rattle.atspi_names.proofs.OwnersLemmas.{list_elsewhere, early-empty, early-well_known, early-gone, early-hello}
 use Rattle.atspi_names.proofs.UniqueLemmas.{unique_name-injective}

@@ -5,7 +5,7 @@ use Rattle.atspi_script_lines.specs.declared.line.Party.{Party}
 use Rattle.atspi_message.specs.Bytes.{IsMessage, written}
 use Rattle.atspi_trace.specs.World.{Said, Letter, End, first_world}
 use Rattle.atspi_trace.specs.Carrying.{Carried, takes, takes_end}
-use Rattle.atspi_bus_laws.specs.handed.Spellable.{IsSpellable}
+use Rattle.atspi_message.specs.Spellable.{IsSpellable}
 use Rattle.atspi_bus_laws.specs.handed.Known.{IsKnown}
 
 -- a letter: its bytes spell its message

@@ -8,7 +8,7 @@ use Rattle.atspi_match.specs.routing.BusState.{unique_of}
 use Rattle.atspi_trace.specs.World.{Standing, here, stopped, away, Role, Said, Letter, End, newcomer, first_world}
 use Rattle.atspi_trace.specs.Ends.{end_at, put_up}
 use Rattle.atspi_trace.specs.Carrying.{Carried, takes, takes_end}
-use Rattle.atspi_bus_laws.specs.handed.Spellable.{IsSpellable}
+use Rattle.atspi_message.specs.Spellable.{IsSpellable}
 use Rattle.atspi_bus_laws.specs.handed.Handing.{HandsLetters}
 
 -- a letter of an end: it bears that end's unique name

@@ -7,7 +7,7 @@ ghost use Rattle.atspi_types.specs.Data.{structure_data, dictionary_data, varian
 ghost use Rattle.atspi_types.specs.Data.{no_entries};
 ghost use Rattle.atspi_types.specs.Kinds.{no_kinds};
 ghost use Rattle.atspi_trace.specs.World.{here, stopped, away};
-ghost use Rattle.atspi_bus_laws.specs.handed.Sits.{Sits};
+ghost use Rattle.atspi_message.specs.Sits.{Sits};
 ghost use Rattle.atspi_bus_laws.specs.handed.Naming.{HasLeft};
 
 /// A number in its width and one past it; a boolean; texts; a path and none; and each container, within one level and

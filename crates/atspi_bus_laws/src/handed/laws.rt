@@ -1,19 +1,8 @@
 //! Laws of what a bus hands on (D-Bus Specification, "Message Format" and "Message Bus Message Routing").
 
-ghost use Rattle.atspi_bus_laws.specs.handed.Spellable.{ShortAreSpelled, SpelledStaySpellable};
 ghost use Rattle.atspi_bus_laws.specs.handed.Handing.{LettersAreSpelled};
 ghost use Rattle.atspi_bus_laws.specs.handed.Naming.{NamesStay};
-
-/// A message that keeps the rules, and of which at most 64 MiB are written, is what its bytes spell: no other limit of
-/// the wire is passed.
-pub fn short_messages_are_spelled()
-    ensures { ShortAreSpelled }
-{}
-
-/// A message that bytes spell keeps the rules under any sender that the bus may set.
-pub fn senders_may_be_set()
-    ensures { SpelledStaySpellable }
-{}
+ghost use Rattle.atspi_bus_laws.specs.handed.Sizes.{OnlyListsAreLong};
 
 /// Under a quota of at most 64 MiB each letter that waits on a down link is a message that its written bytes spell,
 /// from the first world on and whatever the bus takes: a message that is passed on with its sender, and each of the
@@ -27,4 +16,10 @@ pub fn what_is_handed_on_is_spelled()
 /// whoever joins, and whatever the bus takes.
 pub fn letters_bear_the_names_of_their_senders()
     ensures { NamesStay }
+{}
+
+/// Of each message of the bus's own at most 4,096 bytes are written, unless its body is one list of texts: so nothing
+/// but a list of names can be too long for the wire.
+pub fn only_lists_are_long()
+    ensures { OnlyListsAreLong }
 {}

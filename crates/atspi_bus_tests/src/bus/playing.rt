@@ -1,6 +1,7 @@
 //! Tables: what connections do, line by line, and what comes of it.
 
 use crate::bus::letters::{letter, number};
+use crate::bus::longest::longest;
 use crate::bus::looking::{put, put_closings, put_number, put_own, put_received, taken};
 use atspi_base::Bytes;
 use atspi_bus::Bus;
@@ -44,6 +45,7 @@ fn step(rt: &impl Abort, alloc: Global, bus: &mut Bus, line: &str, out: &mut Byt
             put(rt, out, " bytes\n");
         }
         "raw" => send_raw(rt, alloc, bus, conn, words.next().unwrap_or("")),
+        "longest" => take(rt, bus, conn, longest(rt, alloc).as_slice()),
         _ => send(rt, alloc, bus, conn, &letter(rt, word, &mut words)),
     }
 }
@@ -72,7 +74,7 @@ fn play_on(rt: &impl Abort, alloc: Global, bus: &mut Bus, table: &str, out: &mut
 /// Does the lines of a table on a bus with a quota: what they tell is what the table says behind each of them. The
 /// lines are `join`; `bus C SERIAL MEMBER [TEXT [NUMBER]]`, `call`, `signal` and `other C SERIAL TO MEMBER [TEXT]`,
 /// `return` and `error C SERIAL TO REPLY`, with `-` for no destination and `-quiet` for flag 1; `raw C DIGITS`;
-/// `leave C`; `read C`, `skip C`, `waiting C`; `closings`; `own`.
+/// `longest C`; `leave C`; `read C`, `skip C`, `waiting C`; `closings`; `own`.
 pub(crate) fn play(rt: &impl Abort, alloc: Global, quota: u32, due: &str) {
     let mut bus = Bus::new(alloc, quota);
     let mut out = Bytes::new(alloc);

@@ -9,7 +9,6 @@ use Rattle.atspi_marshal.specs.Input.{number_bytes, aligned}
 use Rattle.atspi_marshal.specs.Spelling.{single, padding, counted_short, spelling, spellings}
 use Rattle.atspi_message.specs.Envelope.{Envelope}
 use Rattle.atspi_message.specs.Bytes.{FitsWire, Field, field_data, field_items, field_if, signature_if, rising_fields, spelled_with, header_bytes, body_bytes, body_place}
-use Rattle.atspi_bus_steps.specs.Limits.{PassesLimits}
 use Rattle.atspi_live_bus_examples.specs.limits.Sized.{bare, signed, with_path}
 
 pub bare-fits : FitsWire bare (rising_fields bare)
@@ -63,7 +62,7 @@ first_field : (o : Order) (at : ℕ) (f : Field) (fs : List Field) → length (s
 first_field o at f fs = before _ (spelling o at (field_data f)) (spellings o _ (field_items fs)) (same _)
 
 -- the bytes of a path are fewer than those of all fields
-pub long-path : (e : Envelope) (bytes : List ℕ) → 67108864 < length bytes → PassesLimits (with_path bytes e)
+pub long-path : (e : Envelope) (bytes : List ℕ) → 67108864 < length bytes → FitsWire (with_path bytes e) (rising_fields (with_path bytes e)) → ⊥
 unfolding rising_fields
 long-path e bytes long fits =
     let others : List Field =

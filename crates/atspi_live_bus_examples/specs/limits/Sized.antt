@@ -25,12 +25,12 @@ bare = record {
 abbrev pub signed : Envelope
 signed = record bare { sender = Some zero_ }
 
--- a signal to a name, a call to none, and a message with a path
+-- a signal to a name, and with its sender's name; and a message with a path
 abbrev pub to : List ℕ → Envelope
 to name = record bare { destination = Some name }
 
-abbrev pub call : Envelope
-call = record bare { kind = 1 }
+abbrev pub sent_to : List ℕ → Envelope
+sent_to name = record (to name) { sender = Some zero_ }
 
 abbrev pub with_path : List ℕ → Envelope → Envelope
 with_path path e = record e { path = Some path }

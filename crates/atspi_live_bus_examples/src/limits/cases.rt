@@ -1,46 +1,32 @@
 //! The cases.
 
-ghost use Rattle.std.specs.Prelude.{◌<◌, ◌∷◌, ◌++◌, ℕ, List, [], codes, length};
-ghost use Rattle.atspi_message.specs.Envelope.{Envelope};
-ghost use Rattle.atspi_match.specs.routing.Queues.{Bus, empty_bus};
-ghost use Rattle.atspi_match.specs.routing.Room.{hello, one_};
-ghost use Rattle.atspi_bus_steps.specs.Limits.{PassesLimits, SaysTooMuch, IsTooBig};
-ghost use Rattle.atspi_live_bus_examples.specs.limits.Sized.{bare, signed, with_path, to, call, in_room};
+ghost use Rattle.std.specs.Prelude.{◌≡◌, ◌<◌, ◌≤◌, ◌∷◌, ℕ, List, [], None, length};
+ghost use Rattle.atspi_message.specs.Bytes.{FitsWire, rising_fields, written};
+ghost use Rattle.atspi_match.specs.declared.routing.closing.Why.TheVariants.{Quota};
+ghost use Rattle.atspi_match.specs.routing.Queues.{stepped, told_length};
+ghost use Rattle.atspi_match.specs.routing.Room.{one_};
+ghost use Rattle.atspi_match.specs.routing.Steps.{bus_takes};
+ghost use Rattle.atspi_live_bus_examples.specs.limits.Sized.{bare, signed, with_path, to, sent_to, in_room};
 
 /// A message with no field, or with its sender's name alone, is within the limits. One is not whose path has more bytes
-/// than all fields may have, nor one whose type is no byte.
+/// than all fields may have.
 pub fn limits()
-    ensures no_field { PassesLimits bare → ⊥ }
-    ensures one_field { PassesLimits signed → ⊥ }
-    ensures path { (path : List ℕ) → 67108864 < length path → PassesLimits (with_path path bare) }
-    ensures kind { PassesLimits (record bare { kind = 256 }) }
+    ensures no_field { FitsWire bare (rising_fields bare) }
+    ensures one_field { FitsWire signed (rising_fields signed) }
+    ensures path { (path : List ℕ) → 67108864 < length path
+        → FitsWire (with_path path bare) (rising_fields (with_path path bare)) → ⊥ }
 {}
 
-/// A bus says too much where one of the messages that it says behind those of before passes the limits, wherever it
-/// stands among them.
-pub fn said()
-    ensures nothing { (b : Bus) → SaysTooMuch b b → ⊥ }
-    ensures small { (b : Bus) → SaysTooMuch b (record b { own = b.own ++ signed ∷ [] }) → ⊥ }
-    ensures alone { (b : Bus) (e : Envelope) → PassesLimits e → SaysTooMuch b (record b { own = b.own ++ e ∷ [] }) }
-    ensures between { (b : Bus) (e : Envelope) → PassesLimits e
-        → SaysTooMuch b (record b { own = b.own ++ signed ∷ e ∷ bare ∷ [] }) }
-    ensures before { (b : Bus) (e : Envelope)
-        → SaysTooMuch (record b { own = e ∷ [] }) (record b { own = e ∷ signed ∷ [] }) → ⊥ }
-{}
-
-/// In a bus whose connections 0, 1 and 2 have their names and 3 has none, a message of 0 to the name of 1 is too big
-/// where it passes the limits with the name of 0. One of the same size is not where it goes to a name that nobody owns,
-/// where it is for the bus, as a call without a destination is, and where it is of 3, for then it is not passed on.
-/// Names and receivers are those before the bus took it.
-pub fn too_big()
-    ensures passed_on { (path : List ℕ) → 67108864 < length path
-        → IsTooBig in_room 0 (with_path path (to one_)) in_room }
-    ensures whose_receiver_leaves { (path : List ℕ) → 67108864 < length path
-        → IsTooBig in_room 0 (with_path path (to one_)) (empty_bus 16777216) }
-    ensures small { IsTooBig in_room 0 bare in_room → ⊥ }
-    ensures to_nobody { (path : List ℕ) → IsTooBig in_room 0 (with_path path (to (codes ":1.9"))) in_room → ⊥ }
-    ensures to_the_bus { (path : List ℕ) → IsTooBig in_room 0 (with_path path hello) in_room → ⊥ }
-    ensures to_no_name { (path : List ℕ) → IsTooBig in_room 0 (with_path path call) in_room → ⊥ }
-    ensures of_one_unnamed { (path : List ℕ) → IsTooBig in_room 3 (with_path path (to one_)) in_room → ⊥ }
-    ensures of_the_bus { (e m : Envelope) → PassesLimits m → IsTooBig in_room 3 e (record in_room { own = m ∷ [] }) }
+/// In a bus whose queues take 16,777,216 bytes a message of connection 0 to the name of connection 1 that has more with
+/// the name of 0 closes connection 1, which is told with what waits for it, nothing, and that length; one that has as
+/// many closes nobody. All have joined as before.
+pub fn too_long()
+    ensures receiver { (path : List ℕ) → 16777216 < length (written (with_path path (sent_to one_)))
+        → (stepped in_room (bus_takes in_room.state 0 (with_path path (to one_)) None)).waiting.due
+        ≡ (1, Quota 0 (told_length (written (with_path path (sent_to one_))))) ∷ [] }
+    ensures nobody { (path : List ℕ) → length (written (with_path path (sent_to one_))) ≤ 16777216
+        → (stepped in_room (bus_takes in_room.state 0 (with_path path (to one_)) None)).waiting.due ≡ [] }
+    ensures joined { (path : List ℕ)
+        → (stepped in_room (bus_takes in_room.state 0 (with_path path (to one_)) None)).state.joined
+        ≡ 0 ∷ (1 ∷ (2 ∷ (3 ∷ []))) }
 {}

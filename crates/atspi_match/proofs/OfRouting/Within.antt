@@ -12,7 +12,7 @@ use Rattle.atspi_message.specs.Bytes.{written}
 use Rattle.atspi_match.specs.declared.routing.closing.Why.{Why}
 use Rattle.atspi_match.specs.declared.routing.closing.Why.TheVariants.{NotHello, Quota}
 use Rattle.atspi_match.specs.routing.Steps.{Move, says, delivers, closes, bus_takes, bus_leaves}
-use Rattle.atspi_match.specs.routing.Queues.{Waiting, or_nothing, queue_of, is_due, doomed, queued, moved, Bus, without_queue, left, one_closed, settled}
+use Rattle.atspi_match.specs.routing.Queues.{Waiting, or_nothing, queue_of, is_due, doomed, queued, moved, Bus, without_queue, left, one_closed, settled, told_length}
 use Rattle.atspi_match.specs.routing.Laws.{AreWithin, IsWithinQuota, QueuesStayWithin}
 
 inserted : (quota : ℕ) (queues : FinMap nat_cmp (List ℕ)) (conn : ℕ) (bytes : List ℕ) → AreWithin quota queues → length bytes ≤ quota → AreWithin quota (finmap.insert queues conn bytes)
@@ -40,7 +40,7 @@ doomed_within quota w conn why h = either quota (is_due conn w.due) w (record w 
 queued_within : (quota : ℕ) (w : Waiting) (conn : ℕ) (bytes : List ℕ) → AreWithin quota w.queues → AreWithin quota (queued quota w conn bytes).queues
 queued_within quota w conn bytes h =
     let long = nat_lt quota (length (queue_of w.queues conn) + length bytes) in
-    let full = doomed w conn (Quota (length (queue_of w.queues conn)) (length bytes)) in
+    let full = doomed w conn (Quota (length (queue_of w.queues conn)) (told_length bytes)) in
     let roomy : Waiting = record w { queues = finmap.insert w.queues conn (queue_of w.queues conn ++ bytes) } in
     either quota (is_due conn w.due) w (cond long full roomy) h (λ e. either quota long full roomy (doomed_within quota w conn _ h) (λ short. inserted quota w.queues conn (queue_of w.queues conn ++ bytes) h (omega (arith, ltb-false _ _ short, length-append (queue_of w.queues conn) bytes))))
 

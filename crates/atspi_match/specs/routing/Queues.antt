@@ -8,6 +8,7 @@ use Rattle.std.specs.FinMap.{FinMap}
 use Rattle.std.specs.Ordering.{nat_cmp}
 use Rattle.atspi_message.specs.Envelope.{Envelope}
 use Rattle.atspi_message.specs.Bytes.{written}
+use Rattle.atspi_message.specs.Length.{told}
 use Rattle.atspi_match.specs.declared.condition.Condition.{Condition}
 use Rattle.atspi_match.specs.declared.routing.closing.Why.{Why}
 use Rattle.atspi_match.specs.declared.routing.closing.Why.TheVariants.{NotHello, Quota}
@@ -35,13 +36,17 @@ is_due conn due = list_any (λ (d : ℕ × Why). d.0 == conn) due
 abbrev pub doomed : Waiting → ℕ → Why → Waiting
 doomed w conn why = if is_due conn w.due then w else record w { due = w.due ++ (conn, why) ∷ [] }
 
+-- how many bytes a message is told to have: 4,294,967,295 at most
+abbrev pub told_length : List ℕ → ℕ
+told_length bytes = told (length bytes)
+
 -- bytes go to a queue that has room for them; to one that has not they do not, and its connection is to be closed. To
--- one that is to be closed nothing goes.
+-- one that is to be closed nothing goes. So it is with all that is handed on, also where it is too long for the wire.
 abbrev pub queued : ℕ → Waiting → ℕ → List ℕ → Waiting
 queued quota w conn bytes =
     if is_due conn w.due then w
     else if nat_lt quota (length (queue_of w.queues conn) + length bytes)
-    then doomed w conn (Quota (length (queue_of w.queues conn)) (length bytes))
+    then doomed w conn (Quota (length (queue_of w.queues conn)) (told_length bytes))
     else record w { queues = finmap.insert w.queues conn (queue_of w.queues conn ++ bytes) }
 
 -- one thing that the bus does, as the queues see it

@@ -1,7 +1,6 @@
 use Rattle.std.proofs.Common.{◌<◌, sym, ap, ◌∙◌, subst}
 use Rattle.atspi_match.specs.routing.Queues.{Bus, leaves}
 use Rattle.atspi_bus_steps.specs.InnerBus.{inner_of}
-use Rattle.atspi_bus_steps.specs.Limits.{SaysTooMuch}
 use Rattle.atspi_bus_steps.specs.Sound.{IsSound}
 use Rattle.atspi_bus.proofs.whole.leave_on_copy.Goals as goal
 
@@ -14,6 +13,3 @@ returns-in-Ok-clause-ok c = ap inner_of c.swap.ensures.x_after ∙ c.in-Ok.ensur
 pub returns-clause-spent : goal.returns-clause-spent
 returns-clause-spent c e =
     subst (λ (x : Bus). 4294967296 < (leaves x c.args.conn).state.next) c.in_ok-after.ensures (c.in-Err.ensures.spent e)
-
-pub returns-clause-big : goal.returns-clause-big
-returns-clause-big c e = subst (λ (x : Bus). SaysTooMuch x (leaves x c.args.conn)) c.in_ok-after.ensures (c.in-Err.ensures.big e)

@@ -2,8 +2,7 @@ use Rattle.std.proofs.Common.{◌≡◌, ◌<◌, subst}
 use Rattle.std.specs.Prelude.{OnOk, IsErrOf}
 use Rattle.atspi_match.specs.routing.Queues.{Bus, leaves}
 use Rattle.atspi_bus_steps.specs.InnerBus.{inner_of}
-use Rattle.atspi_bus_steps.specs.Limits.{SaysTooMuch}
-use Rattle.atspi_bus_steps.specs.declared.fault.BusFault.TheVariants.{Big, Spent}
+use Rattle.atspi_bus_steps.specs.declared.fault.BusFault.TheVariants.{Spent}
 use Rattle.atspi_bus.proofs.whole.leave_whole.Goals as goal
 
 pub returns-in-Ok-false-clause-ok : goal.returns-in-Ok-false-clause-ok
@@ -15,23 +14,3 @@ pub returns-in-Ok-false-clause-spent : goal.returns-in-Ok-false-clause-spent
 returns-in-Ok-false-clause-spent c =
     let same = rw c.in-Ok-false.field-0-test at c.in-Ok-false.ensures.ok in
     subst (λ (b : Bus). IsErrOf c.leave_on_copy.result Spent → 4294967296 < (leaves b c.args.conn).state.next) same c.leave_on_copy.ensures.spent
-
-pub returns-in-Ok-false-clause-big : goal.returns-in-Ok-false-clause-big
-returns-in-Ok-false-clause-big c =
-    let same = rw c.in-Ok-false.field-0-test at c.in-Ok-false.ensures.ok in
-    subst (λ (b : Bus). IsErrOf c.leave_on_copy.result Big → SaysTooMuch b (leaves b c.args.conn)) same c.leave_on_copy.ensures.big
-
-pub returns-in-Err-Big-clause-ok : goal.returns-in-Err-Big-clause-ok
-returns-in-Err-Big-clause-ok c =
-    subst (λ (b : Bus). OnOk c.leave_on_copy-in-Err-Big.result (inner_of c.leave_on_copy-in-Err-Big.new.inner ≡ leaves b c.args.conn))
-    c.in-Err-Big.ensures.err c.leave_on_copy-in-Err-Big.ensures.ok
-
-pub returns-in-Err-Big-clause-spent : goal.returns-in-Err-Big-clause-spent
-returns-in-Err-Big-clause-spent c =
-    subst (λ (b : Bus). IsErrOf c.leave_on_copy-in-Err-Big.result Spent → 4294967296 < (leaves b c.args.conn).state.next)
-    c.in-Err-Big.ensures.err c.leave_on_copy-in-Err-Big.ensures.spent
-
-pub returns-in-Err-Big-clause-big : goal.returns-in-Err-Big-clause-big
-returns-in-Err-Big-clause-big c =
-    subst (λ (b : Bus). IsErrOf c.leave_on_copy-in-Err-Big.result Big → SaysTooMuch b (leaves b c.args.conn))
-    c.in-Err-Big.ensures.err c.leave_on_copy-in-Err-Big.ensures.big

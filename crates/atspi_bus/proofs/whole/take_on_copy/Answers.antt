@@ -3,7 +3,6 @@ use Rattle.atspi_message_in_place.specs.View.{envelope_at}
 use Rattle.atspi_match.specs.declared.condition.Condition.{Condition}
 use Rattle.atspi_match.specs.routing.Queues.{Bus, takes}
 use Rattle.atspi_bus_steps.specs.InnerBus.{inner_of}
-use Rattle.atspi_bus_steps.specs.Limits.{IsTooBig}
 use Rattle.atspi_bus_steps.specs.Sound.{IsSound}
 use Rattle.atspi_bus_steps.specs.Spoken.{IsRuleTaken}
 use Rattle.atspi_bus.proofs.Joined.{taken-like}
@@ -21,9 +20,3 @@ returns-clause-spent c e =
     subst (λ (x : Bus). (rule : Option (List Condition)) × IsRuleTaken x.state c.args.conn (envelope_at c.args.m.now) rule
     × (4294967296 < (takes x c.args.conn (envelope_at c.args.m.now) rule).state.next))
     c.in_ok-after.ensures (c.in-Err.ensures.spent e)
-
-pub returns-clause-big : goal.returns-clause-big
-returns-clause-big c e =
-    subst (λ (x : Bus). (rule : Option (List Condition)) × IsRuleTaken x.state c.args.conn (envelope_at c.args.m.now) rule
-    × IsTooBig x c.args.conn (envelope_at c.args.m.now) (takes x c.args.conn (envelope_at c.args.m.now) rule))
-    c.in_ok-after.ensures (c.in-Err.ensures.big e)

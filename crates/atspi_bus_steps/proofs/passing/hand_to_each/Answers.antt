@@ -12,5 +12,5 @@ returns-clause-ok c =
     let queues = c.args.queues.now in
     let h = rw c.if-not-went.false at c.in_ok-went.ensures.ok in (
       c.note_all.ensures ∙ ap (λ k. calls_after_all (map call_of k) c.args.conn e to) c.reserve.ensures.items,
-      h.1 ∙ ap (λ (bytes : List ℕ). record queues { waiting = queued_each queues.quota queues.waiting bytes to }) (c.as_slice.ensures ∙ c.in_ok-bytes.ensures.bytes),
+      h.1 ∙ ap (λ (bytes : List ℕ). record queues { waiting = queued_each queues.quota queues.waiting bytes to }) (c.as_slice.ensures ∙ (rw c.in-Bytes.is at c.in_ok-bytes.ensures.spelled).0),
     )

@@ -1,4 +1,4 @@
-use Rattle.std.proofs.Common.{refl, sym, ap, subst, ◌∙◌, inl, length}
+use Rattle.std.proofs.Common.{refl, sym, ap, subst, ◌∙◌, length}
 use Rattle.std.specs.Prelude.{ℕ, List}
 use Rattle.atspi_auth.specs.Talk.{fault_in}
 use Rattle.atspi_stream.specs.Stream.{AwaitsMore, few}
@@ -22,7 +22,7 @@ pub returns-clause-not_whole_changes : goal.returns-clause-not_whole_changes
 returns-clause-not_whole_changes c l b d four five h = four_five d.quota (ap (λ (w : Bus). w.quota) h.0 ∙ four) five
 
 pub returns-clause-malformed : goal.returns-clause-malformed
-returns-clause-malformed c l m b place reason fault = (refl, inl (place, reason, fault))
+returns-clause-malformed c l m b place reason fault = (refl, (place, reason, fault))
 
 pub returns-clause-good : goal.returns-clause-good
 returns-clause-good c l m b none h = none h.1

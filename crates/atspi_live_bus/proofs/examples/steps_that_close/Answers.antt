@@ -1,4 +1,4 @@
-use Rattle.atspi_live_bus.proofs.Refusing.{own, another, not_closed}
+use Rattle.atspi_live_bus.proofs.StepsClosing.{own, another, not_closed}
 use Rattle.atspi_live_bus.proofs.examples.steps_that_close.Goals as goal
 
 pub returns-clause-own : goal.returns-clause-own

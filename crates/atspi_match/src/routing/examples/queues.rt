@@ -1,6 +1,6 @@
 //! Queues, their quota, and the closings that it brings.
 
-ghost use Rattle.std.specs.Prelude.{◌≡◌, ◌∷◌, [], None, Some, codes, length};
+ghost use Rattle.std.specs.Prelude.{◌≡◌, ◌∷◌, ℕ, List, [], None, Some, codes, length};
 ghost use Rattle.atspi_message.specs.Bytes.{written};
 ghost use Rattle.atspi_match.specs.routing.OwnMessages.{return_to};
 ghost use Rattle.atspi_match.specs.routing.Queues.{Waiting, queue_of, queued, doomed, empty_bus, joins, takes, leaves};
@@ -20,6 +20,24 @@ pub fn quota()
     ensures other { queue_of (queued 9 one_waits 2 (8 ∷ [])).queues 1 ≡ 7 ∷ [] }
     ensures once { (doomed (record one_waits { due = (1, Why.Quota 1 2) ∷ [] }) 1 Why.NotHello).due
         ≡ (1, Why.Quota 1 2) ∷ [] }
+{}
+
+/// A message counts with its length, also where that is more than the wire allows: one of 134,217,728 bytes goes where the
+/// quota has room for it, and one byte more closes the receiver. Of its length 4,294,967,295 bytes are told at most.
+pub fn long_messages()
+    ensures fits { (bytes : List ℕ) → length bytes ≡ 134217728
+        → queue_of (queued 134217729 one_waits 1 bytes).queues 1 ≡ 7 ∷ bytes }
+    ensures fits_still { (bytes : List ℕ) → length bytes ≡ 134217728 → (queued 134217729 one_waits 1 bytes).due ≡ [] }
+    ensures one_more { (bytes : List ℕ) → length bytes ≡ 134217729
+        → (queued 134217729 one_waits 1 bytes).due ≡ (1, Why.Quota 1 134217729) ∷ [] }
+    ensures small_quota { (bytes : List ℕ) → length bytes ≡ 134217729
+        → (queued 16777216 one_waits 1 bytes).due ≡ (1, Why.Quota 1 134217729) ∷ [] }
+    ensures nothing_goes { (bytes : List ℕ) → length bytes ≡ 134217729
+        → queue_of (queued 16777216 one_waits 1 bytes).queues 1 ≡ 7 ∷ [] }
+    ensures last_told { (bytes : List ℕ) → length bytes ≡ 4294967295
+        → (queued 16777216 one_waits 1 bytes).due ≡ (1, Why.Quota 1 4294967295) ∷ [] }
+    ensures no_more_told { (bytes : List ℕ) → length bytes ≡ 5000000000
+        → (queued 16777216 one_waits 1 bytes).due ≡ (1, Why.Quota 1 4294967295) ∷ [] }
 {}
 
 /// The return of Hello to `:1.0` has 89 bytes.

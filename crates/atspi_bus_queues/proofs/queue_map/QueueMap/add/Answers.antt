@@ -1,4 +1,4 @@
-use Rattle.std.proofs.Common.{◌≡◌, sym, ap, ◌∙◌, arith, ◌^◌, ◌<◌, ◌+◌, cond, is_some, length, List, [], ℕ}
+use Rattle.std.proofs.Common.{◌≡◌, ap, ◌∙◌, arith, ◌+◌, cond, is_some, length, [], ℕ}
 use Rattle.std.specs.FinMap as finmap
 use Rattle.atspi_bus_queues.proofs.Chains.{has_room, no_chain, one_added, added_kept}
 use Rattle.atspi_bus_queues.proofs.queue_map.QueueMap.add.Goals as goal

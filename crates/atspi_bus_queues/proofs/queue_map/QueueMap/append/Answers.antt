@@ -1,9 +1,9 @@
-use Rattle.std.proofs.Common.{sym, ap, ◌∙◌, arith, ◌++◌, List, ℕ, length}
+use Rattle.std.proofs.Common.{sym, ap, ◌∙◌, arith, ◌++◌, length}
 use Rattle.std.specs.FinMap as finmap
 use Rattle.std.proofs.lemmas.Result.{on_ok_weaker}
 use Rattle.atspi_pool.specs.Chains.{pushed}
 use Rattle.atspi_pool.specs.Store.{Store, held, chain_at}
-use Rattle.atspi_match.specs.routing.Queues.{or_nothing, queue_of}
+use Rattle.atspi_match.specs.routing.Queues.{or_nothing}
 use Rattle.atspi_bus_queues.proofs.Chains.{get-at, get_none, changes, one_changed, not_both}
 use Rattle.atspi_bus_queues.proofs.queue_map.QueueMap.append.Goals as goal
 

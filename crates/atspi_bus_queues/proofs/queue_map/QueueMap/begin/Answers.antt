@@ -1,4 +1,4 @@
-use Rattle.std.proofs.Common.{sym, ap, subst, ◌∙◌, arith, List, [], ◌++◌, ℕ, length}
+use Rattle.std.proofs.Common.{sym, ap, subst, ◌∙◌, arith, [], ◌++◌, length}
 use Rattle.std.specs.Prelude.{IsSome}
 use Rattle.std.specs.FinMap as finmap
 use Rattle.atspi_match.specs.routing.Queues.{queue_of}

@@ -1,9 +1,8 @@
-use Rattle.std.proofs.Common.{sym, ap, ◌≡◌, ◌≤◌, ◌-◌, ◌∙◌, arith, List, ℕ, length, take}
+use Rattle.std.proofs.Common.{sym, ap, ◌≤◌, ◌-◌, ◌∙◌, arith, List, ℕ, length, take}
 use Rattle.std.specs.FinMap as finmap
 use Rattle.atspi_pool.specs.Chains.{cut_by}
 use Rattle.atspi_pool.specs.Store.{Store, held, chain_at}
-use Rattle.atspi_match.specs.routing.Queues.{or_nothing, queue_of}
-use Rattle.atspi_bus_queues.specs.Change.{with_queue}
+use Rattle.atspi_match.specs.routing.Queues.{or_nothing}
 use Rattle.atspi_bus_queues.proofs.Chains.{get-at, get_none, changes, one_changed, cut-bytes, with_queue-some, with_queue-none}
 use Rattle.atspi_bus_queues.proofs.queue_map.QueueMap.cut_back.Goals as goal
 

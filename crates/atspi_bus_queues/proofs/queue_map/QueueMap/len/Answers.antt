@@ -1,4 +1,4 @@
-use Rattle.std.proofs.Common.{sym, ap, ◌∙◌, List, ℕ, length}
+use Rattle.std.proofs.Common.{sym, ap, ◌∙◌, length}
 use Rattle.atspi_match.specs.routing.Queues.{or_nothing}
 use Rattle.atspi_bus_queues.proofs.Chains.{get-at, get_none}
 use Rattle.atspi_bus_queues.proofs.queue_map.QueueMap.len.Goals as goal

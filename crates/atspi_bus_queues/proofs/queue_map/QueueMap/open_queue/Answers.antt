@@ -1,4 +1,4 @@
-use Rattle.std.proofs.Common.{refl, sym, ap, ◌∙◌, arith, List, [], ℕ, length}
+use Rattle.std.proofs.Common.{sym, ap, ◌∙◌}
 use Rattle.std.specs.FinMap as finmap
 use Rattle.atspi_pool.specs.Chains.{popped_by}
 use Rattle.atspi_pool.specs.Store.{Store, held, chain_at}

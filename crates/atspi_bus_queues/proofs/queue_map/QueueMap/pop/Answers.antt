@@ -1,9 +1,8 @@
-use Rattle.std.proofs.Common.{sym, ap, ◌≡◌, ◌≤◌, ◌-◌, ◌∙◌, arith, List, ℕ, length, drop}
+use Rattle.std.proofs.Common.{sym, ap, ◌≤◌, ◌∙◌, arith, List, ℕ, length, drop}
 use Rattle.std.specs.FinMap as finmap
 use Rattle.atspi_pool.specs.Chains.{popped_by}
 use Rattle.atspi_pool.specs.Store.{Store, held, chain_at}
-use Rattle.atspi_match.specs.routing.Queues.{or_nothing, queue_of}
-use Rattle.atspi_bus_queues.specs.Change.{with_queue}
+use Rattle.atspi_match.specs.routing.Queues.{or_nothing}
 use Rattle.atspi_bus_queues.proofs.Chains.{get-at, get_none, changes, one_changed, popped-bytes, with_queue-some, with_queue-none}
 use Rattle.atspi_bus_queues.proofs.queue_map.QueueMap.pop.Goals as goal
 

@@ -1,4 +1,4 @@
-use Rattle.std.proofs.Common.{◌≡◌, ◌+◌, ◌<◌, ◌++◌, ◌∷◌, suc, length, get_or, take, drop, drop-cons, sym, ap, ◌∙◌, subst, arith}
+use Rattle.std.proofs.Common.{◌<◌, ◌++◌, suc, length, get_or, take, drop, drop-cons, sym, ap, ◌∙◌, subst, arith}
 use Rattle.std.proofs.lemmas.List.{take_more, take-append-drop}
 use Rattle.atspi_bus_queues.specs.Held.{Held}
 use Rattle.atspi_bus_queues.specs.Each.{WentToEach}

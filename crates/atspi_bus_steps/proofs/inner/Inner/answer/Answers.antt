@@ -4,18 +4,15 @@ use Rattle.atspi_message_in_place.specs.View.{envelope_at}
 use Rattle.atspi_message.specs.Envelope.{envelope_of}
 use Rattle.atspi_names.specs.Owners.{Owners}
 use Rattle.atspi_match.specs.routing.BusState.{BusState}
-use Rattle.atspi_match.specs.routing.Answers.{Answer, answers}
-use Rattle.atspi_match.specs.routing.Steps.{answered}
-use Rattle.atspi_match.specs.routing.Queues.{Bus, stepped}
-use Rattle.atspi_bus_answers.specs.Answered.{reply_of, with_parts}
-use Rattle.atspi_bus_steps.specs.InnerBus.{inner_of, state_of}
-use Rattle.atspi_bus_steps.specs.Limits.{SaysTooMuch}
+use Rattle.atspi_match.specs.routing.Answers.{answers}
+use Rattle.atspi_match.specs.routing.Queues.{Bus}
+use Rattle.atspi_bus_answers.specs.Answered.{with_parts}
+use Rattle.atspi_bus_steps.specs.InnerBus.{state_of}
 use Rattle.atspi_bus_steps.specs.Sayable.{MaySay, IsTyped}
 use Rattle.atspi_bus_steps.specs.Sound.{IsSound}
 use Rattle.atspi_bus_steps.proofs.Sayables.{sayable}
-use Rattle.atspi_bus_steps.proofs.Sounds.{given_answered, answers-parts}
+use Rattle.atspi_bus_steps.proofs.Sounds.{given_answered}
 use Rattle.atspi_bus_steps.proofs.Ends.{on_ok_both, sound-parts}
-use Rattle.atspi_bus_steps.proofs.TooBig.{too_much-answered}
 use Rattle.atspi_bus_steps.proofs.inner.Inner.answer.Goals as goal
 
 pub conclude-requires-clause-sayable : goal.conclude-requires-clause-sayable
@@ -43,16 +40,3 @@ returns-clause-sound c =
     (ap (λ (o : Owners). o.given) a.2.owners ∙ given_answered c.args.member s c.args.conn (envelope_at c.args.m.now).body a.0)
     c.in_ok-reply.ensures.named refl (subst (λ (x : BusState). x.next ≤ 4294967296) same ready.last)))
     c.conclude.ensures.ok c.conclude.ensures.ready
-
-pub returns-clause-big : goal.returns-clause-big
-returns-clause-big c is =
-    let a = c.in_ok-reply.ensures.ok in
-    let b = inner_of c.args.self.now in
-    let e = envelope_at c.args.m.now in
-    let told = a.2.told ∙ ap (λ l. map envelope_of l ++ (answers c.args.member (with_parts b.state.owners b.state.rules) c.args.conn e.body a.0).told) c.new-told.ensures.items in (
-      a.0,
-      a.1,
-      subst (λ (x : Answer). SaysTooMuch b (stepped b (answered b.state c.args.conn e x))) (answers-parts c.args.member b.state c.args.conn e.body a.0)
-          (too_much-answered b c.args.conn e (answers c.args.member (with_parts b.state.owners b.state.rules) c.args.conn e.body a.0) c.answer.new.names c.answer.new.rules
-          (map envelope_of c.answer.new.told.items) (reply_of c.in_ok-reply.reply) a.2.owners a.2.rules told a.2.reply (c.conclude.ensures.big is)),
-    )

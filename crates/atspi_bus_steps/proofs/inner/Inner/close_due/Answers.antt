@@ -3,9 +3,8 @@ use Rattle.std.specs.Prelude.{Err}
 use Rattle.std.proofs.lemmas.Grind.{common_steps}
 use Rattle.atspi_match.specs.routing.Queues.{settled}
 use Rattle.atspi_bus_steps.specs.InnerBus.{inner_of}
-use Rattle.atspi_bus_steps.specs.Limits.{SaysTooMuch}
-use Rattle.atspi_bus_steps.specs.declared.fault.BusFault.TheVariants.{Big, Spent}
-use Rattle.atspi_bus_steps.proofs.Settling.{settling-start, settling-next, settling-spent, settling-big, settling-none}
+use Rattle.atspi_bus_steps.specs.declared.fault.BusFault.TheVariants.{Spent}
+use Rattle.atspi_bus_steps.proofs.Settling.{settling-start, settling-next, settling-spent, settling-none}
 use Rattle.atspi_bus_steps.proofs.inner.Inner.close_due.Goals as goal
 
 pub loop-round-init : goal.loop-round-init
@@ -28,11 +27,3 @@ loop-round-preserved c = record {
       c.loop-round-test.true c.loop-round.invariant.settling c.in-Some.ensures.1 c.in_ok-close-in-Some.ensures.ok;
   sound = c.in_ok-close-in-Some.ensures.sound;
 }
-
-pub returns-in_err-close-in-Some-clause-big : goal.returns-in_err-close-in-Some-clause-big
-returns-in_err-close-in-Some-clause-big c =
-    let first = inner_of c.args.self.now in
-    let big : c.close.result ≡ Err Big → SaysTooMuch first (settled c.args.rounds first) =
-    λ is. settling-big c.args.rounds c.loop-round.round first (inner_of c.loop-round.self) (c.in-Some.conn, c.in-Some.why) c.in-Some.ensures.0
-    c.loop-round-test.true c.loop-round.invariant.settling c.in-Some.ensures.1 (c.close.ensures.big is) in
-    grind (arith, common_steps, big)

@@ -9,7 +9,6 @@ use Rattle.atspi_match.specs.routing.BusState.{BusState}
 use Rattle.atspi_match.specs.routing.Queues.{Bus, stepped}
 use Rattle.atspi_bus_steps.specs.InnerBus.{inner_of}
 use Rattle.atspi_bus_steps.specs.Greeting.{greeting}
-use Rattle.atspi_bus_steps.specs.Limits.{SaysTooMuch}
 use Rattle.atspi_bus_steps.specs.Sayable.{MaySay}
 use Rattle.atspi_bus_steps.specs.Sound.{IsSound}
 use Rattle.atspi_bus_steps.proofs.Greetings.{greets-is, say-greeting, greeting-two}
@@ -44,12 +43,3 @@ returns-clause-sound c =
     (sound-greeted s c.args.conn (s.next + length (greeting (unique_name s.owners.given) e)) c.requires.sound (is_bus_name-unique_name s.owners.given (omega arith)) (omega arith)
     (subst (λ (x : BusState). x.next ≤ 4294967296) same ready.last)))
     c.say.ensures.ok c.say.ensures.ready
-
-pub returns-clause-big : goal.returns-clause-big
-returns-clause-big c is =
-    let b = inner_of c.args.self.now in
-    let e = envelope_at c.args.m.now in
-    subst (λ (x : Bus). SaysTooMuch b x)
-    (greeted-step b c.args.conn e c.hello.new.self (map envelope_of c.in_ok-told.told.items) c.in-Ok.name c.in-Ok.ensures.owners c.in_ok-told.ensures c.in-Ok.ensures.name
-    ∙ ap (stepped b) (sym (greets-is b.state c.args.conn e)))
-    (c.say.ensures.big is)

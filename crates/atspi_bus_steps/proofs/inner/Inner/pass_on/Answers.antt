@@ -1,8 +1,7 @@
-use Rattle.std.proofs.Common.{rules, ◌≡◌, false, sym, ap, subst, inl}
+use Rattle.std.proofs.Common.{sym, ap, subst}
 use Rattle.std.proofs.lemmas.Result.{on_ok_weaker}
 use Rattle.atspi_message_in_place.specs.View.{envelope_at}
 use Rattle.atspi_match.specs.routing.Routing.{receivers}
-use Rattle.atspi_match.specs.routing.Steps.{is_unowned}
 use Rattle.atspi_match.specs.routing.Queues.{Bus}
 use Rattle.atspi_bus_steps.specs.InnerBus.{state_of}
 use Rattle.atspi_bus_steps.specs.Sound.{IsSound}
@@ -16,9 +15,3 @@ returns-clause-sound c =
     on_ok_weaker c.forward.result
     (λ is. subst IsSound (sym (ap (λ (b : Bus). b.state) is)) (sound-passed s c.args.conn e (receivers s e) c.requires.sound c.requires.meets.numbered))
     c.forward.ensures.ok
-
-pub returns-clause-big : goal.returns-clause-big
-returns-clause-big c is =
-    let e = envelope_at c.args.m.now in
-    let owned : is_unowned e.destination (receivers (state_of c.args.self.now) e) ≡ false = search rules in
-    inl (owned, c.forward.ensures.big is)

@@ -1,14 +1,10 @@
-use Rattle.std.proofs.Common.{◌≡◌, ◌+◌, ◌++◌, ◌∷◌, [], false, List, map, refl, sym, ap, ◌∙◌, arith}
+use Rattle.std.proofs.Common.{◌≡◌, ◌+◌, ◌++◌, ◌∷◌, [], false, List, map, refl, sym, ap, ◌∙◌}
 use Rattle.std.specs.Prelude.{Result, Ok, Err, is_ok, is_err, if◌then◌else◌}
-use Rattle.std.proofs.lemmas.Grind.{common_steps}
 use Rattle.std.proofs.lemmas.List.{map-append}
 use Rattle.atspi_message.specs.Envelope.{Envelope, envelope_of}
-use Rattle.atspi_match.specs.routing.Queues.{Bus, stepped}
-use Rattle.atspi_match.specs.routing.Steps.{speaks}
+use Rattle.atspi_match.specs.routing.Queues.{Bus}
 use Rattle.atspi_bus_steps.specs.InnerBus.{inner_of}
-use Rattle.atspi_bus_steps.specs.Limits.{SaysTooMuch}
-use Rattle.atspi_bus_steps.specs.declared.fault.BusFault.TheVariants.{Big}
-use Rattle.atspi_bus_steps.proofs.Said.{one_said, one_too_much}
+use Rattle.atspi_bus_steps.proofs.Said.{one_said}
 use Rattle.atspi_bus_steps.proofs.inner.Inner.say_one.Goals as goal
 
 pushed : {T E A : Type 0} (r : Result T E) (x y : A) → is_err r ≡ false → (if is_ok r then x else y) ≡ x
@@ -25,10 +21,3 @@ returns-clause-ok c =
     ap (λ own. with_own own handed) (ap (map envelope_of) items ∙ map-append envelope_of c.hand.new.self.own.items (message ∷ []))
     ∙ ap (λ (b : Bus). with_own (b.own ++ envelope_of message ∷ []) b) c.in_ok-hand.ensures.ok
     ∙ one_said first (envelope_of c.args.message)
-
-pub returns-in_err-hand-clause-big : goal.returns-in_err-hand-clause-big
-returns-in_err-hand-clause-big c =
-    let b = inner_of c.args.self.now in
-    let e = envelope_of c.args.message in
-    let big : c.hand.result ≡ Err Big → SaysTooMuch b (stepped b (speaks b.state (e ∷ []))) = λ is. one_too_much b e (c.hand.ensures.big is) in
-    grind (arith, common_steps, big)

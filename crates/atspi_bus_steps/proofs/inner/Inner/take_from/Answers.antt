@@ -1,13 +1,12 @@
 use Rattle.std.proofs.Common.{◌≡◌, ◌<◌, List, Option, subst}
-use Rattle.std.specs.Prelude.{◌⊎◌, OnOk, IsErrOf}
+use Rattle.std.specs.Prelude.{OnOk, IsErrOf}
 use Rattle.atspi_message.specs.Envelope.{Envelope}
 use Rattle.atspi_match.specs.declared.condition.Condition.{Condition}
 use Rattle.atspi_match.specs.routing.Steps.{takes_from_named}
 use Rattle.atspi_match.specs.routing.Queues.{stepped}
 use Rattle.atspi_bus_steps.specs.InnerBus.{inner_of, state_of}
-use Rattle.atspi_bus_steps.specs.Limits.{IsTooBigToPass, SaysTooMuch}
 use Rattle.atspi_bus_steps.specs.Spoken.{IsRuleNamed}
-use Rattle.atspi_bus_steps.specs.declared.fault.BusFault.TheVariants.{Big, Spent}
+use Rattle.atspi_bus_steps.specs.declared.fault.BusFault.TheVariants.{Spent}
 use Rattle.atspi_bus_steps.proofs.inner.Inner.take_from.Goals as goal
 
 pub returns-clause-ok : goal.returns-clause-ok
@@ -21,10 +20,3 @@ returns-clause-spent c =
     subst (λ (x : Envelope). IsErrOf c.take_named.result Spent → (rule : Option (List Condition)) × IsRuleNamed x rule
     × (4294967296 < (takes_from_named (state_of c.args.self.now) c.args.conn x rule).state.next))
     c.with_sender.ensures c.take_named.ensures.spent
-
-pub returns-clause-big : goal.returns-clause-big
-returns-clause-big c =
-    let b = inner_of c.args.self.now in
-    subst (λ (x : Envelope). IsErrOf c.take_named.result Big → (rule : Option (List Condition)) × IsRuleNamed x rule
-    × (IsTooBigToPass b.state x ⊎ SaysTooMuch b (stepped b (takes_from_named b.state c.args.conn x rule))))
-    c.with_sender.ensures c.take_named.ensures.big

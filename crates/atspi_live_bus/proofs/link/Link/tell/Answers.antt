@@ -1,4 +1,4 @@
-use Rattle.std.proofs.Common.{Err, refl, ap, inl, inr}
+use Rattle.std.proofs.Common.{Err, refl, ap, inl}
 use Rattle.atspi_message_in_place.specs.View.{envelope_at}
 use Rattle.atspi_bus_steps.specs.declared.fault.BusFault.{BusFault}
 use Rattle.atspi_live_bus.proofs.Conversing.{shorter, told_one}
@@ -12,14 +12,6 @@ returns-in-Ok-clause-ok c =
       c.in-Ok.ensures.ok,
       λ took handed t g v. told_one took handed c.args.self.now _ t g (envelope_at c.in-Message.message) m.0 m.1 m.2 refl refl v,
       shorter (envelope_at c.in-Message.message) m.0 c.args.self.now.feeder _ m.1 m.2,
-    )
-
-pub returns-in-Err-Big-clause-ok : goal.returns-in-Err-Big-clause-ok
-returns-in-Err-Big-clause-ok c =
-    let left = rw c.in-Message.is at c.next.follows.holds-at-none in
-    let m = left.message in (
-      c.in-Err-Big.ensures.err,
-      inr (record { envelope = envelope_at c.in-Message.message; bytes = m.0; rest = _; is = m.1; front = m.2 }, c.in-Err-Big.ensures.big (ap (λ (x : BusFault). Err x) c.in-Err-Big.field-0-is)),
     )
 
 pub returns-in-Err-clause-spent : goal.returns-in-Err-clause-spent

@@ -3,10 +3,10 @@ use Rattle.atspi_live_bus_examples.proofs.OfLimits.Fitting.{bare-fits, signed-fi
 use Rattle.atspi_live_bus_examples.proofs.limits.cases.limits.Goals as goal
 
 pub returns-clause-no_field : goal.returns-clause-no_field
-returns-clause-no_field c passes = passes bare-fits
+returns-clause-no_field c = bare-fits
 
 pub returns-clause-one_field : goal.returns-clause-one_field
-returns-clause-one_field c passes = passes signed-fits
+returns-clause-one_field c = signed-fits
 
 pub returns-clause-path : goal.returns-clause-path
 returns-clause-path c = long-path bare

@@ -2,7 +2,7 @@ use Rattle.std.proofs.Common.{map, set, Err, refl, sym, ap, ◌∙◌, subst}
 use Rattle.atspi_match.specs.routing.Queues as queues
 use Rattle.atspi_bus_steps.specs.InnerBus.{inner_of}
 use Rattle.atspi_message.specs.Bytes.{written}
-use Rattle.atspi_bus_laws.proofs.OfHanded.Short.{message_spellable}
+use Rattle.atspi_message.proofs.Short.{message_spellable}
 use Rattle.atspi_world_links.specs.declared.post.Post.{Post}
 use Rattle.atspi_trace.specs.Causes.{does, routes}
 use Rattle.atspi_world_moves.specs.inner.Told.{whose}
