@@ -9,8 +9,9 @@ ghost use Rattle.atspi_protocol.specs.exporting.Exporter.{begins};
 ghost use Rattle.atspi_protocol.specs.exporting.Taking.{app_edits, is_spent};
 ghost use Rattle.atspi_app_known.specs.application.Seen.{IsSpentAfter};
 ghost use Rattle.atspi_app_exported.specs.Doing.{AreOne};
-ghost use Rattle.atspi_app_exported.specs.Parts.{AreEmpty, AreKinds, IsEmpty, kept_by};
-ghost use Rattle.atspi_app.specs.Boxed.{contents_in};
+ghost use Rattle.atspi_faces.specs.face.Boxes.{box_number};
+ghost use Rattle.atspi_app_exported.specs.Parts.{AreEmpty, AreKinds, IsEmpty, kept_by, number_among, with_number};
+ghost use Rattle.atspi_app.specs.Boxed.{boxes_in, contents_in};
 
 use crate::telling::told;
 use atspi_app_exported::{Boxes, Exported, Kit};
@@ -105,6 +106,11 @@ impl App {
         ensures old_kind { IfOk result (λ old. of_kind old ≡ of_kind new) }
         ensures back { IfErr result (λ back. IsEmpty (nodes back.0)) }
         ensures back_kind { IfErr result (λ back. of_kind back.0 ≡ of_kind new) }
+        ensures new_box { OnOk result
+            (boxes_in self.new ≡ with_number (of_kind new) (box_number new) (boxes_in self.old)) }
+        ensures old_box { IfOk result (λ old. box_number old ≡ number_among (of_kind new) (boxes_in self.old)) }
+        ensures same_boxes { OnErr result (boxes_in self.new ≡ boxes_in self.old) }
+        ensures back_box { IfErr result (λ back. box_number back.0 ≡ box_number new) }
     {
         self.exported.swap_face(new)
     }

@@ -2,8 +2,9 @@
 
 ghost use Rattle.std.specs.Prelude.{◌≡◌};
 ghost use Rattle.atspi_app_exported.specs.Boxed.{faces_in, kinds_in};
-ghost use Rattle.atspi_app_exported.specs.Parts.{AreEmpty, AreKinds, IsEmpty};
-ghost use Rattle.atspi_app.specs.Boxed.{IsAppIn, exporter_in};
+ghost use Rattle.atspi_faces.specs.face.Boxes.{box_number};
+ghost use Rattle.atspi_app_exported.specs.Parts.{AreEmpty, AreKinds, IsEmpty, IsOfTexts};
+ghost use Rattle.atspi_app.specs.Boxed.{IsAppIn, boxes_in, exporter_in};
 
 use crate::app::App;
 use crate::fault::edit_fault;
@@ -31,7 +32,12 @@ impl Application for App {
     ghost is_kit = { λ kit. AreKinds (kinds_in (λ box. (Face-box box).of_kind box.value) kit)
         × AreEmpty (faces_in (λ box. (Face-box box).nodes box.value) kit) };
 
-    ghost is_spare = { λ spare. IsEmpty ((Face-box spare).nodes spare.value) };
+    ghost is_spare = { λ spare. IsOfTexts ((Face-box spare).of_kind spare.value)
+        × IsEmpty ((Face-box spare).nodes spare.value) };
+
+    ghost texts = { λ app. (boxes_in app).chars };
+
+    ghost number = { λ spare. box_number spare };
 
     fn new(alloc: Global, name: Text, kit: Kit) -> Result<App, NoMemory> {
         match App::new(alloc, name, kit) {

@@ -4,7 +4,7 @@ use Rattle.std.specs.Prelude.{codes}
 use Rattle.atspi_types.specs.Data.{Data}
 use Rattle.atspi_tree_model.specs.Row.{TreeRow}
 use Rattle.atspi_protocol.specs.declared.members.member.ObjectMember.{ObjectMember}
-use Rattle.atspi_protocol.specs.declared.members.member.ObjectMember.TheVariants.{GetChildAtIndex, GetChildren, GetIndexInParent, GetRelationSet, GetRole, GetRoleName, GetLocalizedRoleName, GetState, GetAttributes, GetApplication, GetInterfaces, GetLocale, GetItems, GetText, SetCaretOffset, GetCharacterAtOffset, GetNSelections, GetSelection, AddSelection, RemoveSelection, SetSelection, SetTextContents, InsertText, DeleteText, GetSelectedChild, SelectChild, DeselectChild, DeselectSelectedChild, IsChildSelected, SelectAll, ClearSelection, GetAccessibleAt, GetIndexAt, GetRowAtIndex, GetColumnAtIndex, GetSelectedRows, IsRowSelected, IsSelected, GetName, GetDescription, GetKeyBinding, GetActions, DoAction, RegisterEvent, DeregisterEvent, GetRegisteredEvents, Embed, Unembed, Get, GetAll, Set, Ping}
+use Rattle.atspi_protocol.specs.declared.members.member.ObjectMember.TheVariants.{GetChildAtIndex, GetChildren, GetIndexInParent, GetRelationSet, GetRole, GetRoleName, GetLocalizedRoleName, GetState, GetAttributes, GetApplication, GetInterfaces, GetLocale, GetItems, GetText, SetCaretOffset, GetCharacterAtOffset, GetStringAtOffset, GetNSelections, GetSelection, AddSelection, RemoveSelection, SetSelection, SetTextContents, InsertText, DeleteText, GetSelectedChild, SelectChild, DeselectChild, DeselectSelectedChild, IsChildSelected, SelectAll, ClearSelection, GetAccessibleAt, GetIndexAt, GetRowAtIndex, GetColumnAtIndex, GetSelectedRows, IsRowSelected, IsSelected, GetName, GetDescription, GetKeyBinding, GetActions, DoAction, RegisterEvent, DeregisterEvent, GetRegisteredEvents, Embed, Unembed, Get, GetAll, Set, Ping}
 use Rattle.atspi_protocol.specs.objects.Application.{Application}
 use Rattle.atspi_protocol.specs.objects.Answers.{called, refuses, tells_all, tree_answers}
 use Rattle.atspi_protocol.specs.members.Asked.{calls}
@@ -29,6 +29,7 @@ unknown a row body GetItems e f g h = refl
 unknown a row body GetText e f g h = absurd (let z : true ≡ false = f in cc)
 unknown a row body SetCaretOffset e f g h = absurd (let z : true ≡ false = f in cc)
 unknown a row body GetCharacterAtOffset e f g h = absurd (let z : true ≡ false = f in cc)
+unknown a row body GetStringAtOffset e f g h = absurd (let z : true ≡ false = f in cc)
 unknown a row body GetNSelections e f g h = absurd (let z : true ≡ false = f in cc)
 unknown a row body GetSelection e f g h = absurd (let z : true ≡ false = f in cc)
 unknown a row body AddSelection e f g h = absurd (let z : true ≡ false = f in cc)
@@ -84,6 +85,7 @@ nothing a body GetItems h = absurd (h refl)
 nothing a body GetText h = refl
 nothing a body SetCaretOffset h = refl
 nothing a body GetCharacterAtOffset h = refl
+nothing a body GetStringAtOffset h = refl
 nothing a body GetNSelections h = refl
 nothing a body GetSelection h = refl
 nothing a body AddSelection h = refl

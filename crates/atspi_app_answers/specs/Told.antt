@@ -13,6 +13,7 @@ use Rattle.atspi_protocol.specs.declared.members.member.ObjectMember.TheVariants
 use Rattle.atspi_protocol.specs.declared.members.member.ObjectMember.TheVariants.{GetAttributes, GetApplication}
 use Rattle.atspi_protocol.specs.declared.members.member.ObjectMember.TheVariants.{GetInterfaces, GetText}
 use Rattle.atspi_protocol.specs.declared.members.member.ObjectMember.TheVariants.{SetCaretOffset, GetCharacterAtOffset}
+use Rattle.atspi_protocol.specs.declared.members.member.ObjectMember.TheVariants.{GetStringAtOffset}
 use Rattle.atspi_protocol.specs.declared.members.member.ObjectMember.TheVariants.{GetNSelections, GetSelection}
 use Rattle.atspi_protocol.specs.declared.members.member.ObjectMember.TheVariants.{AddSelection, RemoveSelection}
 use Rattle.atspi_protocol.specs.declared.members.member.ObjectMember.TheVariants.{SetSelection, SetTextContents}
@@ -119,6 +120,7 @@ abbrev pub is_of_contents : ObjectMember → Bool
 is_of_contents GetText = true
 is_of_contents SetCaretOffset = true
 is_of_contents GetCharacterAtOffset = true
+is_of_contents GetStringAtOffset = true
 is_of_contents GetNSelections = true
 is_of_contents GetSelection = true
 is_of_contents AddSelection = true

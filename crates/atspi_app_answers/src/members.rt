@@ -59,6 +59,7 @@ pub fn is_of_contents(member: ObjectMember) -> bool
         ObjectMember::GetText
             | ObjectMember::SetCaretOffset
             | ObjectMember::GetCharacterAtOffset
+            | ObjectMember::GetStringAtOffset
             | ObjectMember::GetNSelections
             | ObjectMember::GetSelection
             | ObjectMember::AddSelection

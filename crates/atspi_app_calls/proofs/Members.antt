@@ -1,5 +1,5 @@
 -- Which member a call asks for: the interfaces of an object, looked up one by one, have the lines of the table.
-use Rattle.std.proofs.Common.{◌≡◌, ℕ, Bool, true, false, cond, List, [], ◌∷◌, ◌++◌, Option, None, Some, refl, sym, ap, subst, ◌∙◌}
+use Rattle.std.proofs.Common.{◌≡◌, ℕ, Bool, true, false, cond, List, [], ◌∷◌, ◌++◌, Option, None, Some, refl, sym, ap, ◌∙◌}
 use Rattle.std.specs.Prelude.{◌&&◌, ◌||◌, not, filter, codes, bytes_eq, length, take, Result, Ok, Err}
 use Rattle.std.specs.Prelude.{codes as word_codes}
 use Rattle.std.specs.List.{AllByRecursion, list_all}
@@ -122,7 +122,7 @@ module _ (all : List (List ℕ)) (name : List ℕ) where
     from_editable_text = step names.editable_text table.editable_text_lines (table.selection_lines ++ (table.table_lines ++ (table.action_lines ++ (table.registry_lines ++ (table.socket_lines ++ common_lines))))) (refl, (refl, (refl, tt))) ∙ ap (first_of (part interfaces.EditableText)) from_selection
 
     from_text : line_named name (filter (passes all) (table.text_lines ++ (table.editable_text_lines ++ (table.selection_lines ++ (table.table_lines ++ (table.action_lines ++ (table.registry_lines ++ (table.socket_lines ++ common_lines)))))))) ≡ first_of (part interfaces.Text) (first_of (part interfaces.EditableText) (first_of (part interfaces.Selection) (first_of (part interfaces.Table) (first_of (part interfaces.Action) (first_of (part interfaces.Properties) (part interfaces.Peer))))))
-    from_text = step names.text table.text_lines (table.editable_text_lines ++ (table.selection_lines ++ (table.table_lines ++ (table.action_lines ++ (table.registry_lines ++ (table.socket_lines ++ common_lines)))))) (refl, (refl, (refl, (refl, (refl, (refl, (refl, (refl, tt)))))))) ∙ ap (first_of (part interfaces.Text)) from_editable_text
+    from_text = step names.text table.text_lines (table.editable_text_lines ++ (table.selection_lines ++ (table.table_lines ++ (table.action_lines ++ (table.registry_lines ++ (table.socket_lines ++ common_lines)))))) (refl, (refl, (refl, (refl, (refl, (refl, (refl, (refl, (refl, tt))))))))) ∙ ap (first_of (part interfaces.Text)) from_editable_text
 
     from_cache : line_named name (filter (passes all) (table.cache_lines ++ (table.text_lines ++ (table.editable_text_lines ++ (table.selection_lines ++ (table.table_lines ++ (table.action_lines ++ (table.registry_lines ++ (table.socket_lines ++ common_lines))))))))) ≡ first_of (part interfaces.Cache) (first_of (part interfaces.Text) (first_of (part interfaces.EditableText) (first_of (part interfaces.Selection) (first_of (part interfaces.Table) (first_of (part interfaces.Action) (first_of (part interfaces.Properties) (part interfaces.Peer)))))))
     from_cache = step names.cache table.cache_lines (table.text_lines ++ (table.editable_text_lines ++ (table.selection_lines ++ (table.table_lines ++ (table.action_lines ++ (table.registry_lines ++ (table.socket_lines ++ common_lines))))))) (refl, tt) ∙ ap (first_of (part interfaces.Cache)) from_text

@@ -1,10 +1,10 @@
 -- Which interfaces an object has, by their names.
-use Rattle.std.proofs.Common.{◌≡◌, ◌≢◌, ℕ, Bool, true, false, cond, List, [], ◌∷◌, ◌++◌, Option, None, Some, refl, sym, ap, ◌∙◌}
+use Rattle.std.proofs.Common.{◌≡◌, ℕ, Bool, true, false, List, [], ◌∷◌, ◌++◌, None, refl, ◌∙◌}
 use Rattle.std.specs.Prelude.{bytes_eq, ◌&&◌, ◌||◌}
 use Rattle.std.specs.List.{list_any}
 use Rattle.std.proofs.lemmas.Slice.Eq.{bytes_eq-Decides}
 use Rattle.atspi_tree_model.specs.declared.contents.Kinds.{Kinds}
-use Rattle.atspi_tree_model.specs.Announce.{named, interfaces_of}
+use Rattle.atspi_tree_model.specs.Announce.{named}
 use Rattle.atspi_protocol.specs.members.Interfaces as names
 use Rattle.atspi_protocol.specs.members.Objects.{is_among}
 use Rattle.atspi_app_calls.specs.declared.interface.AppInterface.{AppInterface}

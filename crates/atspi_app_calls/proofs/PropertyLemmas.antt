@@ -11,23 +11,21 @@ use Rattle.atspi_protocol.specs.declared.ends.error.CallError.{CallError}
 use Rattle.atspi_protocol.specs.ends.Messages.{error_word}
 use Rattle.atspi_protocol.specs.declared.members.property.ObjectProperty.{ObjectProperty}
 use Rattle.atspi_protocol.specs.declared.members.property.ObjectProperty.TheVariants as properties
-use Rattle.atspi_protocol.specs.members.Interfaces as names
 use Rattle.atspi_protocol.specs.members.Table.{PropertyLine, property_lines}
 use Rattle.atspi_protocol.specs.members.Objects.{is_among}
 use Rattle.atspi_protocol.specs.members.Arguments.{int}
-use Rattle.atspi_protocol.specs.members.Asked.{Asked, gets, gets_all, sets, and_then, first_or, properties_of, property_named, property_of, set_to}
-use Rattle.atspi_app_calls.specs.reading.Arguments.{IsSigned, IsNoSigned}
+use Rattle.atspi_protocol.specs.members.Asked.{Asked, gets, sets, and_then, first_or, properties_of, property_named, property_of, set_to}
+use Rattle.atspi_app_calls.specs.reading.Arguments.{IsNoSigned}
 use Rattle.atspi_app_calls.proofs.OfReading.Words.{IsPlain, same_word, written_word}
 use Rattle.atspi_app_calls.specs.declared.interface.AppInterface.{AppInterface}
 use Rattle.atspi_app_calls.specs.declared.interface.AppInterface.TheVariants as interfaces
 use Rattle.atspi_app_calls.specs.declared.object.AppObject.{AppObject}
-use Rattle.atspi_app_calls.specs.declared.ask.Ask.{Ask}
-use Rattle.atspi_app_calls.specs.declared.ask.Ask.TheVariants.{Get, GetAll, SetId}
+use Rattle.atspi_app_calls.specs.declared.ask.Ask.TheVariants.{Get, SetId}
 use Rattle.atspi_app_calls.specs.Interface.{interface_name, NamesInterface, properties_in}
 use Rattle.atspi_app_calls.specs.Object.{object_of}
 use Rattle.atspi_app_calls.specs.inner.Lines.{property_first}
-use Rattle.atspi_app_calls.specs.Ask.{as_asked, IsSettable, IsLine, IsFound, AreAll}
-use Rattle.atspi_app_calls.proofs.Names.{not_same, no_interface}
+use Rattle.atspi_app_calls.specs.Ask.{as_asked, IsSettable, IsLine}
+use Rattle.atspi_app_calls.proofs.Names.{no_interface}
 
 plain_name : (i : AppInterface) → IsPlain (interface_name i)
 unfolding characters lib.Utf8.encode

@@ -14,10 +14,11 @@ use crate::interface::{AppInterface, interface_named};
 use crate::member::member_of;
 use crate::object::AppObject;
 use crate::properties::property_in;
-use crate::reading::{first_text, second_text, third_set_signed};
+use crate::reading::{first_text, grain_of, second_text, second_unsigned, third_set_signed};
 use atspi_message_in_place::MessageRef;
 use atspi_protocol::ends::CallError;
 use atspi_protocol::members::{ObjectMember, ObjectProperty};
+use atspi_units::Grain;
 
 /// The interface of this name, where the object has it.
 fn interface_of(object: AppObject, interface: &str) -> Result<AppInterface, CallError>
@@ -96,6 +97,16 @@ fn getting_all(interface: Result<AppInterface, CallError>) -> Result<Ask, CallEr
     }
 }
 
+/// What is asked of the pieces of a text, where it is said of which.
+fn pieces(grain: Option<Grain>) -> Result<Ask, CallError>
+    ensures { (body : List Data) → asked.pieces_asked body grain ≡ as_asked body result }
+{
+    match grain {
+        Some(_) => Ok(Ask::Call(ObjectMember::GetStringAtOffset)),
+        None => Err(CallError::InvalidArgs),
+    }
+}
+
 /// What a call of a member asks.
 fn of_member(object: AppObject, member: ObjectMember, m: &MessageRef) -> Result<Ask, CallError>
     ensures { asked.asked_by (object_of object) (envelope_at m.now).body member
@@ -108,6 +119,7 @@ fn of_member(object: AppObject, member: ObjectMember, m: &MessageRef) -> Result<
             property(object, first_text(m.body), second_text(m.body)),
             third_set_signed(m.body),
         ),
+        ObjectMember::GetStringAtOffset => pieces(grain_of(second_unsigned(m.body))),
         _ => Ok(Ask::Call(member)),
     }
 }

@@ -75,6 +75,8 @@ fn of_text(name: &str) -> Option<Line>
         Some((ObjectMember::SetCaretOffset, b"i".as_slice()))
     } else if name == "GetCharacterAtOffset" {
         Some((ObjectMember::GetCharacterAtOffset, b"i".as_slice()))
+    } else if name == "GetStringAtOffset" {
+        Some((ObjectMember::GetStringAtOffset, b"iu".as_slice()))
     } else if name == "GetNSelections" {
         Some((ObjectMember::GetNSelections, b"".as_slice()))
     } else if name == "GetSelection" {

@@ -35,6 +35,27 @@ pub record Kinds : Type 0 where
 abbrev pub kinds_of : FaceKind → FaceKind → FaceKind → Kinds
 kinds_of chars grid deeds = record { chars = chars; grid = grid; deeds = deeds }
 
+-- which three boxes they are, by their numbers
+pub record Numbers : Type 0 where
+  pub chars : ℕ
+  pub grid : ℕ
+  pub deeds : ℕ
+
+abbrev pub numbers_of : ℕ → ℕ → ℕ → Numbers
+numbers_of chars grid deeds = record { chars = chars; grid = grid; deeds = deeds }
+
+-- the one of a kind
+abbrev pub number_among : FaceKind → Numbers → ℕ
+number_among Chars numbers = numbers.chars
+number_among Grid numbers = numbers.grid
+number_among Deeds numbers = numbers.deeds
+
+-- with another one of a kind
+abbrev pub with_number : FaceKind → ℕ → Numbers → Numbers
+with_number Chars n numbers = record numbers { chars = n }
+with_number Grid n numbers = record numbers { grid = n }
+with_number Deeds n numbers = record numbers { deeds = n }
+
 -- the first keeps texts, the second columns, the third actions
 pub record AreKinds (kinds : Kinds) : Type 0 where
   pub texts : kinds.chars ≡ Chars
@@ -47,6 +68,10 @@ pub record IsExported (of : Kinds) (p : Parts) : Type 0 where
   pub kinds : AreKinds of
   pub only : KnowOnly p.faces p.tree.rows
   pub lawful : IsTree rows (whole_of p) p.tree.added
+
+-- the kind of a face that keeps texts
+abbrev pub IsOfTexts : FaceKind → Type 0
+IsOfTexts kind = kind ≡ Chars
 
 -- a face that knows no node
 abbrev pub IsEmpty : Nodes → Type 0

@@ -2,7 +2,8 @@
 
 ghost use Rattle.std.specs.Prelude.{◌≡◌, None, OnOk, OnErr, IfOk, IfErr, IfSome, IsSome};
 ghost use Rattle.std.specs.FinMap as map;
-ghost use Rattle.atspi_app_exported.specs.Parts.{AreSmall, IsEmpty, kept_by};
+ghost use Rattle.atspi_faces.specs.face.Boxes.{box_number};
+ghost use Rattle.atspi_app_exported.specs.Parts.{AreSmall, IsEmpty, kept_by, number_among, with_number};
 
 use crate::exported::Exported;
 use crate::exports::Exports;
@@ -26,6 +27,7 @@ fn copy_node<F: Face, G: Face>(
         (IfSome (map.get (F.nodes from.now) node) (λ what. G.nodes to.new ≡ map.insert (G.nodes to.old) node what)) }
     ensures err { OnErr result (G.nodes to.new ≡ G.nodes to.old) }
     ensures kind { G.of_kind to.new ≡ G.of_kind to.old }
+    ensures same_one { G.number to.new ≡ G.number to.old }
 {
     let _ = from.kind();
     let data = contents_at(alloc, from, node)?;
@@ -43,6 +45,7 @@ fn copy_nodes<F: Face, G: Face>(alloc: Global, from: &F, to: &mut G) -> Result<(
     ensures ok { OnOk result (G.nodes to.new ≡ F.nodes from.now) }
     ensures small { AreSmall (G.nodes to.new) }
     ensures kind { G.of_kind to.new ≡ G.of_kind to.old }
+    ensures same_one { G.number to.new ≡ G.number to.old }
 {
     let mut at = 0u32;
     loop {
@@ -64,6 +67,7 @@ fn clear<F: Face>(face: &mut F)
     requires { AreSmall (F.nodes face.old) }
     ensures empty { IsEmpty (F.nodes face.new) }
     ensures kind { F.of_kind face.new ≡ F.of_kind face.old }
+    ensures same_one { F.number face.new ≡ F.number face.old }
 {
     let mut at = 0u32;
     loop {
@@ -94,6 +98,10 @@ fn exchange(
     ensures old_kind { IfOk result (λ old. of_kind old ≡ of_kind new) }
     ensures back { IfErr result (λ back. IsEmpty (nodes back.0)) }
     ensures back_kind { IfErr result (λ back. of_kind back.0 ≡ of_kind new) }
+    ensures new_box { OnOk result (box_number face.new ≡ box_number new) }
+    ensures old_box { IfOk result (λ old. box_number old ≡ box_number face.old) }
+    ensures same_box { OnErr result (box_number face.new ≡ box_number face.old) }
+    ensures back_box { IfErr result (λ back. box_number back.0 ≡ box_number new) }
 {
     let mut new = new;
     if let Err(none) = copy_nodes(alloc, &*face, &mut new) {
@@ -120,6 +128,14 @@ impl Exported {
         ensures old_kind { IfOk result (λ old. of_kind old ≡ of_kind new) }
         ensures back { IfErr result (λ back. IsEmpty (nodes back.0)) }
         ensures back_kind { IfErr result (λ back. of_kind back.0 ≡ of_kind new) }
+        ensures new_box { OnOk result
+            (⟦<Exported as Exports>⟧.numbers self.new
+            ≡ with_number (of_kind new) (box_number new) (⟦<Exported as Exports>⟧.numbers self.old)) }
+        ensures old_box { IfOk result
+            (λ old. box_number old ≡ number_among (of_kind new) (⟦<Exported as Exports>⟧.numbers self.old)) }
+        ensures same_boxes { OnErr result
+            (⟦<Exported as Exports>⟧.numbers self.new ≡ ⟦<Exported as Exports>⟧.numbers self.old) }
+        ensures back_box { IfErr result (λ back. box_number back.0 ≡ box_number new) }
     {
         match new.kind() {
             FaceKind::Chars => exchange(self.alloc, &mut self.kit.chars, new),

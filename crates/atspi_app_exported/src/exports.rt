@@ -1,8 +1,8 @@
 //! How contracts see what lies in boxes: what a struct with boxes is seen as is told by a trait, since such a struct
 //! has no model.
 
-ghost use Rattle.atspi_app_exported.specs.Boxed.{IsExportedIn, faces_in, kinds_in, parts_in};
-ghost use Rattle.atspi_app_exported.specs.Parts.{Kinds, Parts};
+ghost use Rattle.atspi_app_exported.specs.Boxed.{IsExportedIn, faces_in, kinds_in, numbers_in, parts_in};
+ghost use Rattle.atspi_app_exported.specs.Parts.{Kinds, Numbers, Parts};
 ghost use Rattle.atspi_protocol.specs.whole.Whole.{Faces};
 
 use crate::exported::Exported;
@@ -22,9 +22,12 @@ impl Boxes for Kit {
     ghost faces = { faces_in (λ box. (Face-box box).nodes box.value) };
 }
 
-/// A whole tree over three boxes: their kinds, the parts of the tree, and what holds of them at any time.
+/// A whole tree over three boxes: their kinds, which boxes they are, the parts of the tree, and what holds of them at
+/// any time.
 pub trait Exports {
     ghost kinds: { Self → Kinds };
+
+    ghost numbers: { Self → Numbers };
 
     ghost parts: { Self → Parts };
 
@@ -33,6 +36,8 @@ pub trait Exports {
 
 impl Exports for Exported {
     ghost kinds = { λ e. kinds_in (λ box. (Face-box box).of_kind box.value) e.kit };
+
+    ghost numbers = { λ e. numbers_in e.kit };
 
     ghost parts = { parts_in (λ box. (Face-box box).nodes box.value) };
 

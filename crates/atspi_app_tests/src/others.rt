@@ -21,6 +21,7 @@ cache Cache GetItems
 1 Text GetText i=0 i=1
 1 Text SetCaretOffset i=0
 1 Text GetCharacterAtOffset i=0
+1 Text GetStringAtOffset i=0 u=0
 1 Text GetNSelections
 1 Text GetSelection i=0
 1 Text AddSelection i=0 i=1

@@ -37,7 +37,18 @@ const TEXTS: &str = "\
 1 Text GetSelection i=1 -> ii [4 5]
 1 Text GetSelection i=2 -> ii [-1 -1]
 1 Text GetSelection i=2147483647 -> ii [-1 -1]
-1 Text GetStringAtOffset i=0 u=1 -> !UnknownMethod
+1 Text GetStringAtOffset i=0 u=0 -> sii [\"h\" 0 1]
+1 Text GetStringAtOffset i=4 u=0 -> sii [\"o\" 4 5]
+1 Text GetStringAtOffset i=5 u=0 -> sii [\"\" -1 -1]
+1 Text GetStringAtOffset i=-1 u=0 -> sii [\"\" -1 -1]
+1 Text GetStringAtOffset i=-2147483648 u=4 -> sii [\"\" -1 -1]
+1 Text GetStringAtOffset i=2147483647 u=3 -> sii [\"\" -1 -1]
+1 Text GetStringAtOffset i=3 u=1 -> sii [\"héllo\" 0 5]
+1 Text GetStringAtOffset i=3 u=3 -> sii [\"héllo\" 0 5]
+1 Text GetStringAtOffset i=0 u=2 -> !InvalidArgs
+1 Text GetStringAtOffset i=9 u=5 -> !InvalidArgs
+1 Text GetStringAtOffset i=0 u=4294967295 -> !InvalidArgs
+1 Text GetTextAtOffset i=0 u=1 -> !UnknownMethod
 1 Text SetCaretOffset i=2 -> b [true]
 1 Text SetCaretOffset i=0 -> caret 1 0 => b [true]
 1 Text SetCaretOffset i=5 -> caret 1 5 => b [true]
@@ -115,6 +126,61 @@ edit a0 insert 0 0 label \"S\" static \"fixed\" -> add 9 0 0 label \"S\" static 
 9 EditableText SetTextContents s=hi -> !UnknownInterface
 ";
 
+/// Characters, words and lines of a text with a line feed: before its first character, at it, at the last one and behind
+/// that, and between; and of a text whose words stand far from its ends.
+const PIECES: &str = "\
+edit a0 insert 0 0 text \"E\" text \"can't stop\\x0anow\" -> add 1 0 0 text \"E\" text \"can't stop\\x0anow\"
+1 Text GetStringAtOffset i=-1 u=0 -> sii [\"\" -1 -1]
+1 Text GetStringAtOffset i=0 u=0 -> sii [\"c\" 0 1]
+1 Text GetStringAtOffset i=13 u=0 -> sii [\"w\" 13 14]
+1 Text GetStringAtOffset i=14 u=0 -> sii [\"\" -1 -1]
+1 Text GetStringAtOffset i=-1 u=1 -> sii [\"\" -1 -1]
+1 Text GetStringAtOffset i=0 u=1 -> sii [\"can't\" 0 5]
+1 Text GetStringAtOffset i=13 u=1 -> sii [\"now\" 11 14]
+1 Text GetStringAtOffset i=14 u=1 -> sii [\"\" -1 -1]
+1 Text GetStringAtOffset i=-1 u=3 -> sii [\"\" -1 -1]
+1 Text GetStringAtOffset i=0 u=3 -> sii [\"can't stop\\x0a\" 0 11]
+1 Text GetStringAtOffset i=13 u=3 -> sii [\"now\" 11 14]
+1 Text GetStringAtOffset i=14 u=3 -> sii [\"\" -1 -1]
+1 Text GetStringAtOffset i=-1 u=4 -> sii [\"\" -1 -1]
+1 Text GetStringAtOffset i=0 u=4 -> sii [\"can't stop\\x0a\" 0 11]
+1 Text GetStringAtOffset i=13 u=4 -> sii [\"now\" 11 14]
+1 Text GetStringAtOffset i=14 u=4 -> sii [\"\" -1 -1]
+1 Text GetStringAtOffset i=7 u=1 -> sii [\"stop\" 6 10]
+1 Text GetStringAtOffset i=4 u=1 -> sii [\"can't\" 0 5]
+1 Text GetStringAtOffset i=5 u=1 -> sii [\" \" 5 6]
+1 Text GetStringAtOffset i=10 u=1 -> sii [\"\\x0a\" 10 11]
+1 Text GetStringAtOffset i=3 u=0 -> sii [\"'\" 3 4]
+1 Text GetStringAtOffset i=10 u=0 -> sii [\"\\x0a\" 10 11]
+1 Text GetStringAtOffset i=7 u=3 -> sii [\"can't stop\\x0a\" 0 11]
+1 Text GetStringAtOffset i=10 u=4 -> sii [\"can't stop\\x0a\" 0 11]
+1 Text GetStringAtOffset i=11 u=3 -> sii [\"now\" 11 14]
+1 Text GetStringAtOffset i=-1 u=2 -> !InvalidArgs
+1 Text GetStringAtOffset i=1 u=2 -> !InvalidArgs
+1 Text GetStringAtOffset i=14 u=2 -> !InvalidArgs
+1 Text GetStringAtOffset i=-1 u=5 -> !InvalidArgs
+1 Text GetStringAtOffset i=1 u=5 -> !InvalidArgs
+1 Text GetStringAtOffset i=14 u=5 -> !InvalidArgs
+1 Text GetStringAtOffset i=-1 u=4294967295 -> !InvalidArgs
+1 Text GetStringAtOffset i=1 u=4294967295 -> !InvalidArgs
+1 Text GetStringAtOffset i=14 u=4294967295 -> !InvalidArgs
+edit a0 insert 0 0 text \"L\" static \"aaaaaaaaaaaaaaaaaaaaaaaaaaaaaaaaaaaaaaaaaaaaaaaaaaaaaaaaaaaa\
+aaaaaaaaaaaaaaaaaaaaaaaaaaaaaaaaaaaaaaaaaaaaaaaaaaaaaaaaaaaaaaaaaaaaaaaaaaaaaaaa\
+aaaaaaaaaaaaaaaaaaaaaaaaaaaaaaaaaaaaaaaaaaaaaaaaaaaaaaaaaaaa no\" \
+-> add 2 0 0 text \"L\" static \"aaaaaaaaaaaaaaaaaaaaaaaaaaaaaaaaaaaaaaaaaaaaaaaaaaaaaaaaaaaa\
+aaaaaaaaaaaaaaaaaaaaaaaaaaaaaaaaaaaaaaaaaaaaaaaaaaaaaaaaaaaaaaaaaaaaaaaaaaaaaaaa\
+aaaaaaaaaaaaaaaaaaaaaaaaaaaaaaaaaaaaaaaaaaaaaaaaaaaaaaaaaaaa no\"
+2 Text GetStringAtOffset i=202 u=1 -> sii [\"no\" 201 203]
+2 Text GetStringAtOffset i=200 u=1 -> sii [\" \" 200 201]
+2 Text GetStringAtOffset i=199 u=0 -> sii [\"a\" 199 200]
+2 Text GetStringAtOffset i=120 u=1 -> sii [\"aaaaaaaaaaaaaaaaaaaaaaaaaaaaaaaaaaaaaaaaaaaaaaaaaaaaaaaaaaaa\
+aaaaaaaaaaaaaaaaaaaaaaaaaaaaaaaaaaaaaaaaaaaaaaaaaaaaaaaaaaaaaaaaaaaaaaaaaaaaaaaa\
+aaaaaaaaaaaaaaaaaaaaaaaaaaaaaaaaaaaaaaaaaaaaaaaaaaaaaaaaaaaa\" 0 200]
+2 Text GetStringAtOffset i=90 u=3 -> sii [\"aaaaaaaaaaaaaaaaaaaaaaaaaaaaaaaaaaaaaaaaaaaaaaaaaaaaaaaaaaaa\
+aaaaaaaaaaaaaaaaaaaaaaaaaaaaaaaaaaaaaaaaaaaaaaaaaaaaaaaaaaaaaaaaaaaaaaaaaaaaaaaa\
+aaaaaaaaaaaaaaaaaaaaaaaaaaaaaaaaaaaaaaaaaaaaaaaaaaaaaaaaaaaa no\" 0 203]
+";
+
 /// A text has at most sixteen selections.
 const SIXTEEN: &str = "\
 edit a0 insert 0 0 text \"E\" text \"héllo\" -> add 1 0 0 text \"E\" text \"héllo\"
@@ -148,6 +214,12 @@ edit a0 mark 1 0 1 -> !no such place in the text
 #[test]
 fn texts_are_told_and_changed(rt: HostRuntime) {
     assert!(rt; answers(&rt, TEXTS));
+}
+
+/// The piece that holds a character, however far its ends are.
+#[test]
+fn pieces_are_told(rt: HostRuntime) {
+    assert!(rt; makes(&rt, PIECES));
 }
 
 /// The seventeenth is refused, and the next one behind a removal is not.

@@ -37,6 +37,11 @@ cache Cache GetItems as=a;b
 1 Text SetCaretOffset i=1 i=1
 1 Text GetCharacterAtOffset
 1 Text GetCharacterAtOffset b=true
+1 Text GetStringAtOffset
+1 Text GetStringAtOffset i=0
+1 Text GetStringAtOffset i=0 i=1
+1 Text GetStringAtOffset u=0 u=1
+1 Text GetStringAtOffset i=0 u=1 u=1
 1 Text GetNSelections i=0
 1 Text GetSelection
 1 Text GetSelection u=0

@@ -24,8 +24,8 @@ abbrev pub IsUnitRead : Way → List (List ℕ) → ℕ → Reading → ℕ → 
 IsUnitRead way pieces cursor reading at = IsUnitAt pieces at reading.start reading.end
     × (reading.cursor ≡ cursor_after way cursor reading.start reading.end)
 
--- WHAT IS READ AT A CURSOR: the unit of that character, and the cursor behind that; nothing exactly where there is no such
--- character
+-- WHAT IS READ AT A CURSOR: the unit of that character, and the cursor behind that; nothing exactly where there is no
+-- such character
 abbrev pub IsRead : Way → List (List ℕ) → ℕ → Option Reading → Type 0
 IsRead way pieces cursor None = MatchOption (place_read way cursor) (Unit {0}) (λ at. length (concat pieces) ≤ at)
 IsRead way pieces cursor (Some reading) =

@@ -9,9 +9,9 @@ use atspi_base::NoMemory;
 use std::alloc::Global;
 use std::collections::BTreeMap;
 
-/// Where a reader stands in the texts of one application: a cursor for each node whose text it reads. A text that was not
-/// read yet has its cursor at its start, which takes no memory. Looking one up and moving it cost the logarithm of how
-/// many there are.
+/// Where a reader stands in the texts of one application: a cursor for each node whose text it reads. A text that was
+/// not read yet has its cursor at its start, which takes no memory. Looking one up and moving it cost the logarithm of
+/// how many there are.
 #[derive(Drop)]
 pub struct Cursors {
     places: BTreeMap<u32, u32>,
@@ -51,7 +51,8 @@ impl Cursors {
 
     /// So many characters were put into the text of a node, at a place.
     pub fn inserted(&mut self, node: u32, at: u32, count: u32)
-        ensures here { cursor_at self.new node ≡ min (moves.after_insertion (cursor_at self.old node) at count) 4294967295 }
+        ensures here { cursor_at self.new node
+            ≡ min (moves.after_insertion (cursor_at self.old node) at count) 4294967295 }
         ensures others { OthersStay self.old self.new node }
     {
         if let Some(place) = self.places.get_mut(&node) {

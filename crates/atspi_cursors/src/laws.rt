@@ -14,8 +14,8 @@ pub fn stays_behind_an_insertion()
         → take (after_insertion cursor at (length more)) (with_insertion text at more) ≡ take cursor text }
 {}
 
-/// A deletion before a cursor leaves what stands behind it, one behind it what stands before it; and one around it brings
-/// it to where the characters were.
+/// A deletion before a cursor leaves what stands behind it, one behind it what stands before it; and one around it
+/// brings it to where the characters were.
 pub fn stays_behind_a_deletion()
     ensures before { (text : List ℕ) (at count cursor : ℕ) → at + count ≤ cursor → cursor ≤ length text
         → drop (after_deletion cursor at count) (with_deletion text at count) ≡ drop cursor text }
@@ -35,6 +35,6 @@ pub fn stays_within()
 
 /// At most one reading is that of a cursor.
 pub fn one_reading()
-    ensures { (way : Way) (pieces : List (List ℕ)) (cursor : ℕ) (one other : Option Reading) → IsRead way pieces cursor one
-        → IsRead way pieces cursor other → one ≡ other }
+    ensures { (way : Way) (pieces : List (List ℕ)) (cursor : ℕ) (one other : Option Reading)
+        → IsRead way pieces cursor one → IsRead way pieces cursor other → one ≡ other }
 {}

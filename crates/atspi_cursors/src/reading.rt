@@ -35,8 +35,8 @@ fn place_read(way: Way, cursor: u32) -> Option<u32>
     }
 }
 
-/// What is read at a cursor of a text. None where there is no character behind the cursor, or before it, by the way; then
-/// the cursor stays. Takes no memory.
+/// What is read at a cursor of a text. None where there is no character behind the cursor, or before it, by the way;
+/// then the cursor stays. Takes no memory.
 pub fn read(way: Way, unit: Grain, text: &str, cursor: u32) -> Option<Reading>
     requires { length (chars text.now) < 4294967295 }
     ensures { IsRead way (units unit (chars text.now)) cursor result }

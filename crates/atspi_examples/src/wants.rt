@@ -2,6 +2,7 @@
 
 ghost use Rattle.std.specs.Prelude.{◌≡◌, ◌∷◌, [], None, Some, false, true, pos, negsuc, codes};
 ghost use Rattle.atspi_tree_model.specs.News.{fresh};
+ghost use Rattle.atspi_protocol.specs.following.Takes.{still_refused};
 ghost use Rattle.atspi_reader_known.specs.Listed.{AreOnce, all_wants, begins_with, follows, fresh_wants, left};
 ghost use Rattle.atspi_reader_known.specs.Listed.{or_others, row_wants, tells_first};
 ghost use Rattle.atspi_examples.specs.Seen.{item, path, row, seen};
@@ -43,6 +44,19 @@ pub fn followed()
     ensures columns_late { follows ((path 2, PartName.Text) ∷ []) seen (News.ColumnsIs (path 2) (pos 0)) ≡ false }
     ensures name { follows ((path 2, PartName.Text) ∷ []) seen (News.Name (path 2) (codes "a")) ≡ true }
     ensures inserted { follows ((path 2, PartName.Text) ∷ []) seen (News.Inserted (path 2) (pos 0) (codes "a")) ≡ true }
+{}
+
+/// What stays refused where an item comes: where its path has a row, all; where it has none, what was refused of other
+/// paths. No other news ends a refusal.
+pub fn still_refused()
+    ensures known { still_refused seen (News.Item (item 1 0 (pos 0))) ((path 1, PartName.Text) ∷ [])
+        ≡ (path 1, PartName.Text) ∷ [] }
+    ensures anew { still_refused seen (News.Item (item 4 0 (pos 0)))
+        ((path 4, PartName.Text) ∷ (path 1, PartName.Caret) ∷ (path 4, PartName.Columns) ∷ [])
+        ≡ (path 1, PartName.Caret) ∷ [] }
+    ensures orphan { still_refused seen (News.Item (item 4 9 (pos 0))) ((path 4, PartName.Text) ∷ []) ≡ [] }
+    ensures removed { still_refused seen (News.Removed (path 1)) ((path 1, PartName.Text) ∷ [])
+        ≡ (path 1, PartName.Text) ∷ [] }
 {}
 
 /// What a node that is added brings; an item of a node that stands in the view, or of an unknown parent, brings

@@ -1,3 +1,4 @@
+pub mod Boxes
 pub mod Contents
 pub mod Nodes
 pub mod Examples

@@ -60,6 +60,8 @@ impl<C: Contents> Face for Kept<C> {
 
     ghost of_kind = { λ _. C.of_kind };
 
+    ghost number = { λ _. 0 };
+
     ghost nodes = { λ f. nodes_of C.as_data f.nodes.entries };
 
     fn kind(&self) -> FaceKind {

@@ -59,7 +59,8 @@ impl Layout {
         self.rects.remove(&node);
     }
 
-    /// A node that is in the tree, and all nodes below it, are no longer placed. Takes no memory, and costs these nodes.
+    /// A node that is in the tree, and all nodes below it, are no longer placed. Takes no memory, and costs these
+    /// nodes.
     pub fn drop_subtree(&mut self, tree: &Tree, node: u32)
         requires { has (is_shape node) tree.now.rows ≡ true }
         ensures { self.new ≡ without_subtree tree.now node self.old }

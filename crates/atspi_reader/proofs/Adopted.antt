@@ -6,10 +6,10 @@ use Rattle.std.proofs.lemmas.Bool.{and_parts}
 use Rattle.std.proofs.lemmas.List.{append-nil}
 use Rattle.std.proofs.lemmas.List.Folds.{list_any-append, list_all-append}
 use Rattle.std.proofs.lemmas.Slice.Eq.{bytes_eq-Decides}
-use Rattle.atspi_base.specs.valid_names.Names.{is_bus_name}
+use Rattle.atspi_base.specs.valid_names.Names.{is_bus_name, is_unique_name}
 use Rattle.atspi_tree_model.specs.declared.news.Reference.{Reference}
 use Rattle.atspi_protocol.specs.following.ReaderState.{Followed, is_named}
-use Rattle.atspi_protocol.specs.following.Known.{made_known, unasked}
+use Rattle.atspi_protocol.specs.following.Known.{is_connection, made_known, unasked}
 use Rattle.atspi_protocol.specs.following.Replied.{changed}
 use Rattle.atspi_reader_known.proofs.Uniqueness.{changed_none, unique_push, unique_filter}
 use Rattle.atspi_reader.specs.inner.Turns.{app_in, listed, IsNewTo}
@@ -17,7 +17,7 @@ use Rattle.atspi_reader.specs.Steps.{Fine}
 use Rattle.atspi_reader.proofs.Changed.{Keeps, no, any_changed, unique_changed, all_changed, changed-append}
 
 abbrev is_new : List Followed → Reference → Bool
-is_new apps root = is_bus_name root.bus && not (list_any (is_named root.bus) apps)
+is_new apps root = is_connection root.bus && not (list_any (is_named root.bus) apps)
 
 pub pushed : (apps : List Followed) (root : Reference) → is_new apps root ≡ true → made_known apps root ≡ apps ++ unasked root ∷ []
 pushed apps root e = ap (λ (b : Bool). if b then apps ++ unasked root ∷ [] else apps) e
@@ -57,11 +57,11 @@ module _ (f : Followed → Followed) (keeps : Keeps f) (m : List ℕ) where
   made-changed apps root e = by (is_new apps root) refl
     where
       same : is_new (changed f m apps) root ≡ is_new apps root
-      same = ap (λ (b : Bool). is_bus_name root.bus && not b) (any_changed f keeps root.bus m apps)
+      same = ap (λ (b : Bool). is_connection root.bus && not b) (any_changed f keeps root.bus m apps)
 
       by : (b : Bool) → is_new apps root ≡ b → made_known (changed f m apps) root ≡ changed f m (made_known apps root)
       by true p =
-          let stays = no f m (unasked root) (another m apps root e (not_true (list_any (is_named root.bus) apps) (and_parts (is_bus_name root.bus) (not (list_any (is_named root.bus) apps)) p).1)) in
+          let stays = no f m (unasked root) (another m apps root e (not_true (list_any (is_named root.bus) apps) (and_parts (is_connection root.bus) (not (list_any (is_named root.bus) apps)) p).1)) in
           pushed (changed f m apps) root (same ∙ p)
           ∙ ap (λ (a : Followed). changed f m apps ++ a ∷ []) (sym stays)
           ∙ sym (changed-append f m apps (unasked root ∷ []))
@@ -106,9 +106,9 @@ fine_made apps root fine = by (is_new apps root) refl
   where
     by : (b : Bool) → is_new apps root ≡ b → Fine (made_known apps root)
     by true p =
-        let both = and_parts (is_bus_name root.bus) (not (list_any (is_named root.bus) apps)) p in
+        let both = and_parts (is_connection root.bus) (not (list_any (is_named root.bus) apps)) p in
         rw (pushed apps root p) (record {
-          named = list_all-append is_named_well apps (unasked root ∷ []) ∙ rw (fine.named, both.0) refl;
+          named = list_all-append is_named_well apps (unasked root ∷ []) ∙ rw (fine.named, (and_parts (is_bus_name root.bus) (is_unique_name root.bus) both.0).0) refl;
           unique = unique_push (unasked root) apps fine.unique (not_true (list_any (is_named root.bus) apps) both.1);
         })
     by false p = rw (stayed apps root p) fine
@@ -117,12 +117,12 @@ pub fine_fold : (roots : List Reference) (apps : List Followed) → Fine apps �
 fine_fold [] apps fine = fine
 fine_fold (root ∷ roots) apps fine = fine_fold roots (made_known apps root) (fine_made apps root fine)
 
-new_is : (apps : List Followed) (root : Reference) (named known : Bool) → is_bus_name root.bus ≡ named → list_any (is_named root.bus) apps ≡ known
+new_is : (apps : List Followed) (root : Reference) (named known : Bool) → is_connection root.bus ≡ named → list_any (is_named root.bus) apps ≡ known
     → is_new apps root ≡ (named && not known)
 new_is apps root named known e f = ap (λ (b : Bool). b && not (list_any (is_named root.bus) apps)) e ∙ ap (λ (b : Bool). named && not b) f
 
 -- the new application of a reference, where it names one and none with its name is known
-new_by : (apps : List Followed) (root : Reference) (named known : Bool) → is_bus_name root.bus ≡ named → list_any (is_named root.bus) apps ≡ known
+new_by : (apps : List Followed) (root : Reference) (named known : Bool) → is_connection root.bus ≡ named → list_any (is_named root.bus) apps ≡ known
     → apps ++ listed (if known then None else (if named then Some (unasked root) else None)) ≡ made_known apps root
 new_by apps root true true e f = append-nil apps ∙ sym (stayed apps root (new_is apps root true true e f))
 new_by apps root true false e f = sym (pushed apps root (new_is apps root true false e f))
@@ -132,9 +132,9 @@ new_by apps root false false e f = append-nil apps ∙ sym (stayed apps root (ne
 -- the one that a reference names is put behind the others, if it is new
 pub named_app : (apps : List Followed) (root : Reference) (app : Followed) (o : Option Followed) → Some app ≡ app_in root → o ≡ (if list_any (is_named app.name) apps then None else Some app)
     → (apps ++ listed o ≡ made_known apps root) × (IfSome o (IsNewTo apps))
-named_app apps root app o e h = by (is_bus_name root.bus) refl e
+named_app apps root app o e h = by (is_connection root.bus) refl e
   where
-    at : (k : Bool) → list_any (is_named root.bus) apps ≡ k → app ≡ unasked root → is_bus_name root.bus ≡ true → (apps ++ listed o ≡ made_known apps root) × (IfSome o (IsNewTo apps))
+    at : (k : Bool) → list_any (is_named root.bus) apps ≡ k → app ≡ unasked root → is_connection root.bus ≡ true → (apps ++ listed o ≡ made_known apps root) × (IfSome o (IsNewTo apps))
     at true f same n =
         let none : o ≡ None = h ∙ ap (λ (a : Followed). if list_any (is_named a.name) apps then None else Some a) same ∙ ap (λ (b : Bool). if b then None else Some (unasked root)) f in
         (ap (λ (x : Option Followed). apps ++ listed x) none ∙ new_by apps root true true n f, subst (λ (x : Option Followed). IfSome x (IsNewTo apps)) (sym none) tt)
@@ -144,13 +144,13 @@ named_app apps root app o e h = by (is_bus_name root.bus) refl e
           subst (λ (x : Option Followed). IfSome x (IsNewTo apps)) (sym some) (record { other = f; unheld = refl }),
         )
 
-    by : (b : Bool) → is_bus_name root.bus ≡ b → Some app ≡ (if b then Some (unasked root) else None) → (apps ++ listed o ≡ made_known apps root) × (IfSome o (IsNewTo apps))
+    by : (b : Bool) → is_connection root.bus ≡ b → Some app ≡ (if b then Some (unasked root) else None) → (apps ++ listed o ≡ made_known apps root) × (IfSome o (IsNewTo apps))
     by true n e = let same : app ≡ unasked root = cc in at (list_any (is_named root.bus) apps) refl same n
     by false n e = absurd cc
 
 pub nobody_named : (apps : List Followed) (root : Reference) → None ≡ app_in root → apps ++ listed None ≡ made_known apps root
-nobody_named apps root e = by (is_bus_name root.bus) refl e
+nobody_named apps root e = by (is_connection root.bus) refl e
   where
-    by : (b : Bool) → is_bus_name root.bus ≡ b → None ≡ (if b then Some (unasked root) else None) → apps ++ listed None ≡ made_known apps root
+    by : (b : Bool) → is_connection root.bus ≡ b → None ≡ (if b then Some (unasked root) else None) → apps ++ listed None ≡ made_known apps root
     by true n e = absurd cc
     by false n e = append-nil apps ∙ sym (stayed apps root (new_is apps root false (list_any (is_named root.bus) apps) n refl))

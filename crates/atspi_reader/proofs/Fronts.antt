@@ -3,10 +3,9 @@ use Rattle.std.proofs.Common.{◌≡◌, ◌+◌, List, [], ◌∷◌, ◌++◌,
 use Rattle.std.specs.Prelude.{◌&&◌, not, if◌then◌else◌}
 use Rattle.std.specs.List.{list_any, fold}
 use Rattle.std.proofs.lemmas.List.{take-append-le, take_all}
-use Rattle.atspi_base.specs.valid_names.Names.{is_bus_name}
 use Rattle.atspi_tree_model.specs.declared.news.Reference.{Reference}
 use Rattle.atspi_protocol.specs.following.ReaderState.{Followed, is_named}
-use Rattle.atspi_protocol.specs.following.Known.{made_known, unasked}
+use Rattle.atspi_protocol.specs.following.Known.{is_connection, made_known, unasked}
 use Rattle.atspi_reader.specs.inner.Turns.{StandsInFront}
 
 pub front-append : (xs ys : List Followed) → take (length xs) (xs ++ ys) ≡ xs
@@ -22,7 +21,7 @@ more_behind old new more f = record {
 }
 
 pub made_behind : (old new : List Followed) (root : Reference) → StandsInFront old new → StandsInFront old (made_known new root)
-made_behind old new root f = by (is_bus_name root.bus && not (list_any (is_named root.bus) new))
+made_behind old new root f = by (is_connection root.bus && not (list_any (is_named root.bus) new))
   where
     by : (b : Bool) → StandsInFront old (if b then new ++ unasked root ∷ [] else new)
     by true = more_behind old new (unasked root ∷ []) f

@@ -1,5 +1,5 @@
 -- Names by their bytes and by their characters.
-use Rattle.std.proofs.Common.{◌≡◌, ℕ, Bool, true, false, cond, not, List, [], ◌∷◌, filter, Some, None, refl, sym, ap, ◌∙◌, chars, IsUtf8}
+use Rattle.std.proofs.Common.{◌≡◌, ℕ, Bool, true, false, cond, not, List, [], ◌∷◌, filter, Option, Some, None, refl, sym, ap, ◌∙◌, chars, IsUtf8}
 use Rattle.std.specs.Prelude.{◌&&◌, bytes_eq, if◌then◌else◌}
 use Rattle.std.specs.List.{list_all}
 use Rattle.std.proofs.lemmas.Bool.{and_parts}
@@ -65,14 +65,14 @@ module _ (t : List ℕ) (utf8 : IsUtf8 t) where
 
 -- the application that a reference names, by the bytes of its text
 module _ (bytes cs path : List ℕ) (utf8 : IsUtf8 bytes) (is : chars bytes ≡ cs) where
-  pub app_named : (name : List ℕ) (app : Followed) → is_bus_name bytes ≡ true → name ≡ bytes
-      → app ≡ record { name = name; root = path; view = None; reload = false; last = 0; refused = [] } → Some app ≡ app_in (record { bus = cs; path = path })
+  pub app_named : (name : List ℕ) (app : Option Followed) → is_bus_name bytes ≡ true → name ≡ bytes
+      → app ≡ (if is_unique_name name then Some (unasked (record { bus = name; path = path })) else None) → app ≡ app_in (record { bus = cs; path = path })
   app_named name app rule n a =
       let bus : is_bus_name cs ≡ true = ap is_bus_name (sym is) ∙ same_name bytes utf8 ∙ rule in
       let same : name ≡ cs = n ∙ sym (name_chars bytes rule) ∙ is in
-      ap Some (a ∙ ap (λ (x : List ℕ). unasked (record { bus = x; path = path })) same)
-      ∙ sym (ap (λ (b : Bool). if b then Some (unasked (record { bus = cs; path = path })) else None) bus)
+      a ∙ ap (λ (x : List ℕ). if is_unique_name x then Some (unasked (record { bus = x; path = path })) else None) same
+      ∙ sym (ap (λ (b : Bool). if b && is_unique_name cs then Some (unasked (record { bus = cs; path = path })) else None) bus)
 
   pub no_app : is_bus_name bytes ≡ false → None ≡ app_in (record { bus = cs; path = path })
   no_app rule =
-      sym (ap (λ (b : Bool). if b then Some (unasked (record { bus = cs; path = path })) else None) (ap is_bus_name (sym is) ∙ same_name bytes utf8 ∙ rule))
+      sym (ap (λ (b : Bool). if b && is_unique_name cs then Some (unasked (record { bus = cs; path = path })) else None) (ap is_bus_name (sym is) ∙ same_name bytes utf8 ∙ rule))

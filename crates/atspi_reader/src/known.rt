@@ -2,22 +2,34 @@
 
 ghost use Rattle.std.specs.Prelude.{◌≡◌, ◌++◌, None, Some, if◌then◌else◌, IfOk, IfSome, OnOk, OnErr};
 ghost use Rattle.std.specs.List.{fold, list_any};
+ghost use Rattle.atspi_base.specs.valid_names.Names.{is_unique_name};
 ghost use Rattle.atspi_protocol.specs.following.ReaderState.{is_named};
-ghost use Rattle.atspi_protocol.specs.following.Known.{made_known};
+ghost use Rattle.atspi_protocol.specs.following.Known.{made_known, unasked};
 ghost use Rattle.atspi_reader.specs.inner.Turns.{app_in, listed, IsNewTo, StandsInFront};
 
 use atspi_base::NoMemory;
-use atspi_base::valid_names::{BusName, NameFault};
+use atspi_base::valid_names::{BusName, NameFault, Path};
 use atspi_reader_known::{App, Apps};
 use atspi_tree_model::Reference;
 use std::alloc::Global;
 
-/// The application that a reference names, of which nothing was asked yet, where the reference's text is a bus name.
+/// The application with this name and this root, of which nothing was asked yet, where it is the name of a connection.
+fn app_named(alloc: Global, name: BusName, root: Path) -> Option<App>
+    ensures { result ≡ (if is_unique_name name then Some (unasked (record { bus = name; path = root })) else None) }
+{
+    if name.is_unique() {
+        return Some(App::new(alloc, name, root));
+    }
+    None
+}
+
+/// The application that a reference names, of which nothing was asked yet, where the reference's text is the name of a
+/// connection.
 pub(crate) fn app_of(alloc: Global, reference: Reference) -> Result<Option<App>, NoMemory>
     ensures { IfOk result (λ app. app ≡ app_in reference) }
 {
     match BusName::read(alloc, reference.bus.as_str().as_bytes()) {
-        Ok(name) => Ok(Some(App::new(alloc, name, reference.path))),
+        Ok(name) => Ok(app_named(alloc, name, reference.path)),
         Err(NameFault::NoMemory) => Err(NoMemory),
         Err(NameFault::Form) => Ok(None),
     }

@@ -35,8 +35,17 @@ abbrev pub app_of : List ℕ → List ℕ → Option View → Bool → ℕ → L
 app_of name root o reload last refused = record { name = name; root = root; view = rows_of o; reload = reload; last = last; refused = refused }
 
 module _ (name root : List ℕ) (last : ℕ) (refused : List (List ℕ × PartName)) (news : News) where
+  -- what stays refused
+  abbrev pub still_of : Option View → List (List ℕ × PartName)
+  still_of None = refused
+  still_of (Some v) = takes.still_refused v.rows news refused
+
+  pub still_there : (o : Option View) (v : Forest Row) → rows_of o ≡ Some v → takes.still_refused v news refused ≡ still_of o
+  still_there None v e = absurd cc
+  still_there (Some w) v e = let same : w.rows ≡ v = cc in ap (λ (f : Forest Row). takes.still_refused f news refused) (sym same)
+
   pub folded_app : (o : Option View) (reload : Bool) → IsKept name root o → is_some o ≡ true
-      → app_of name root (option_map (told news) o) (reload || reloads news o) last refused ≡ takes.folded news (app_of name root o reload last refused)
+      → app_of name root (option_map (told news) o) (reload || reloads news o) last (still_of o) ≡ takes.folded news (app_of name root o reload last refused)
   folded_app None reload k h = absurd cc
   folded_app (Some v) reload k h = rw (k.0, k.1) refl
 

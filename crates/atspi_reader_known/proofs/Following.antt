@@ -23,7 +23,7 @@ use Rattle.atspi_protocol.specs.declared.news.part.PartName.TheVariants.{Text as
 use Rattle.atspi_protocol.specs.declared.following.question.Question.TheVariants.{GetPart}
 use Rattle.atspi_protocol.specs.following.ReaderState.{Followed}
 use Rattle.atspi_protocol.specs.following.Replied.{refused_part, told_part}
-use Rattle.atspi_protocol.specs.following.Takes.{folded, noted}
+use Rattle.atspi_protocol.specs.following.Takes.{folded, noted, still_refused}
 use Rattle.atspi_protocol.specs.following.Wishes.{wishes_of}
 use Rattle.atspi_reader_known.specs.Kept.{kept}
 use Rattle.atspi_reader_known.specs.Wanted.{first, first_part, part_question, refusing, wish_at}
@@ -34,7 +34,7 @@ use Rattle.atspi_reader_known.proofs.Firsts.{none_first}
 use Rattle.atspi_reader_known.proofs.Found.{shown}
 use Rattle.atspi_reader_known.proofs.Listed.{first_row, left_gone, left_row, once_row, once_view, refused_before, refused_behind, same_want, wanted_left, with_path}
 use Rattle.atspi_reader_known.proofs.Names.{told_name}
-use Rattle.atspi_reader_known.proofs.News.{news_wish_is}
+use Rattle.atspi_reader_known.proofs.News.{after_news, item_after, settled}
 use Rattle.atspi_reader_known.proofs.Quiet.{IsQuiet, quiet_wanted}
 use Rattle.atspi_reader_known.proofs.Rows.{first_held, row_of_sight, rows_shown}
 use Rattle.atspi_reader_known.proofs.Settled.{folded_settled, noted_wishes}
@@ -154,13 +154,15 @@ others_tell wants (Deleted p at m t) x y z = refl
 others_tell wants (Caret p at) x y z = refl
 others_tell wants Nothing x y z = refl
 
--- news
-folded_refusing : (more : List (List ℕ × PartName)) (news : News) (app : Followed) → refusing more (folded news app) ≡ folded news (refusing more app)
-folded_refusing more news app = by app.view refl
+-- news of which what is refused stays as it is
+folded_refusing : (more : List (List ℕ × PartName)) (news : News) (app : Followed)
+    → ((view : Forest Row) (refused : List (List ℕ × PartName)) → still_refused view news refused ≡ refused)
+    → refusing more (folded news app) ≡ folded news (refusing more app)
+folded_refusing more news app same = by app.view refl
   where
     by : (o : Option (Forest Row)) → app.view ≡ o → refusing more (folded news app) ≡ folded news (refusing more app)
     by None e = rw e refl
-    by (Some v) e = rw e refl
+    by (Some v) e = rw (e, same v app.refused, same v (app.refused ++ more)) refl
 
 folded_name : (news : News) (app : Followed) → app.name ≡ (folded news app).name
 folded_name news app = by app.view refl
@@ -171,24 +173,25 @@ folded_name news app = by app.view refl
 
 module _ (app : Followed) (v : Forest Row) (news : News) (e : app.view ≡ Some v) where
   -- where nothing was wanted
-  settled_listed : IsListing [] app → ((a : Followed) (view : Forest Row) → wish_at a view news ≡ None) → IsListing [] (folded news app)
-  settled_listed l none = record {
+  settled_listed : IsListing [] app → ((view : Forest Row) (refused : List (List ℕ × PartName)) → still_refused view news refused ≡ refused)
+      → ((a : Followed) (view : Forest Row) → wish_at a view news ≡ None) → IsListing [] (folded news app)
+  settled_listed l same none = record {
     once = tt;
     wanted = λ more.
-        ap (λ (a : Followed). first (wishes_of a)) (folded_refusing more news app)
+        ap (λ (a : Followed). first (wishes_of a)) (folded_refusing more news app same)
         ∙ ap first (folded_settled (refusing more app) news (none_first (wishes_of (refusing more app)) (l.wanted more)) none);
   }
 
   -- where no unknown part changes
-  quiet_first : (more : List (List ℕ × PartName)) → IsQuiet news → marks_reload v news ≡ false
+  quiet_first : (more : List (List ℕ × PartName)) → IsQuiet news → still_refused v news (app.refused ++ more) ≡ app.refused ++ more → marks_reload v news ≡ false
       → first (wishes_of (folded news (refusing more app))) ≡ first (wishes_of (refusing more app))
-  quiet_first more q m = by app.reload refl
+  quiet_first more q same m = by app.reload refl
     where
       after : Followed
       after = record app { view = Some (effect app.root app.name v news); reload = app.reload || marks_reload v news; refused = app.refused ++ more }
 
       is_after : folded news (refusing more app) ≡ after
-      is_after = rw e refl
+      is_after = rw (e, same) refl
 
       by : (r : Bool) → app.reload ≡ r → first (wishes_of (folded news (refusing more app))) ≡ first (wishes_of (refusing more app))
       by true f = rw (e, f) refl
@@ -198,11 +201,12 @@ module _ (app : Followed) (v : Forest Row) (news : News) (e : app.view ≡ Some 
           ∙ ap (option_map (part_question app.name)) (quiet_wanted (app.refused ++ more) app.root app.name v news q)
           ∙ sym (first_held (refusing more app) v e f)
 
-  quiet_listed : (wants : List (List ℕ × PartName)) → IsListing wants app → IsQuiet news → marks_reload v news ≡ false → IsListing wants (folded news app)
-  quiet_listed wants l q m = record {
+  quiet_listed : (wants : List (List ℕ × PartName)) → IsListing wants app → IsQuiet news → ((view : Forest Row) (refused : List (List ℕ × PartName)) → still_refused view news refused ≡ refused)
+      → marks_reload v news ≡ false → IsListing wants (folded news app)
+  quiet_listed wants l q same m = record {
     once = l.once;
     wanted = λ more.
-        ap (λ (a : Followed). first (wishes_of a)) (folded_refusing more news app) ∙ quiet_first more q m ∙ l.wanted more
+        ap (λ (a : Followed). first (wishes_of a)) (folded_refusing more news app same) ∙ quiet_first more q (same v (app.refused ++ more)) m ∙ l.wanted more
         ∙ ap (λ (n : List ℕ). option_map (part_question n) (first (left more wants))) (folded_name news app);
   }
 
@@ -212,29 +216,35 @@ module _ (app : Followed) (v : Forest Row) (item : Item) (e : app.view ≡ Some 
   is_new = adds app.root app.name (find (is_path item.object.path) v) (has (is_path item.parent.path) v) item
 
   abbrev those : Bool → List (List ℕ × PartName)
-  those b = cond b (row_wants app.refused (fresh item)) []
+  those b = cond b (row_wants [] (fresh item)) []
 
   twice : (o : Option PartName) → option_map (GetPart app.name item.object.path) o ≡ option_map (part_question app.name) (option_map (with_path item.object.path) o)
   twice None = refl
   twice (Some part) = refl
 
   item_first : (more : List (List ℕ × PartName)) (b : Bool)
-      → cond b (option_map (GetPart app.name item.object.path) (first_part (app.refused ++ more) (fresh item))) None ≡ option_map (part_question app.name) (first (left more (those b)))
+      → cond b (option_map (GetPart app.name item.object.path) (first_part more (fresh item))) None ≡ option_map (part_question app.name) (first (left more (those b)))
   item_first more true =
-      twice (first_part (app.refused ++ more) (fresh item))
-      ∙ ap (option_map (part_question app.name)) (sym (first_row (app.refused ++ more) (fresh item)) ∙ ap first (left_row app.refused more (fresh item)))
+      twice (first_part more (fresh item))
+      ∙ ap (option_map (part_question app.name)) (sym (first_row more (fresh item)) ∙ ap first (left_row [] more (fresh item)))
   item_first more false = refl
 
   once_those : (b : Bool) → AreOnce (those b)
-  once_those true = once_row app.refused (fresh item)
+  once_those true = once_row [] (fresh item)
   once_those false = tt
+
+  then_wanted : (more : List (List ℕ × PartName))
+      → first (wishes_of (refusing more (folded (NewItem item) app))) ≡ cond is_new (option_map (GetPart app.name item.object.path) (first_part more (fresh item))) None
+  then_wanted more =
+      let s = settled (refusing more app) v e (none_first (wishes_of (refusing more app)) (l.wanted more)) in
+      let same : folded (NewItem item) app ≡ after_news app v (NewItem item) = rw e refl in
+      ap (λ (a : Followed). first (wishes_of (refusing more a))) same ∙ item_after app v s.0 item more s.1
 
   item_listed : IsListing (those is_new) (folded (NewItem item) app)
   item_listed = record {
     once = once_those is_new;
     wanted = λ more.
-        ap (λ (a : Followed). first (wishes_of a)) (folded_refusing more (NewItem item) app)
-        ∙ sym (news_wish_is (refusing more app) v (NewItem item) e (none_first (wishes_of (refusing more app)) (l.wanted more)))
+        then_wanted more
         ∙ item_first more is_new
         ∙ ap (λ (n : List ℕ). option_map (part_question n) (first (left more (those is_new)))) (folded_name (NewItem item) app);
   }
@@ -257,25 +267,25 @@ folded_listed app v (NewItem item) wants e l f =
     let none = none_left wants f in
     subst (λ (ws : List (List ℕ × PartName)). IsListing ws (folded (NewItem item) app)) (sym (ap (or_others (fresh_wants app v (NewItem item))) none ∙ or_nothing (fresh_wants app v (NewItem item))))
     (item_listed app v item e (subst (λ (ws : List (List ℕ × PartName)). IsListing ws app) none l))
-folded_listed app v (Removed path) [] e l f = settled_listed app v (Removed path) e l (λ a view. refl)
+folded_listed app v (Removed path) [] e l f = settled_listed app v (Removed path) e l (λ view refused. refl) (λ a view. refl)
 folded_listed app v (Removed path) (want ∷ wants) e l f = absurd cc
-folded_listed app v (ChildRemoved p i child) [] e l f = settled_listed app v (ChildRemoved p i child) e l (λ a view. refl)
+folded_listed app v (ChildRemoved p i child) [] e l f = settled_listed app v (ChildRemoved p i child) e l (λ view refused. refl) (λ a view. refl)
 folded_listed app v (ChildRemoved p i child) (want ∷ wants) e l f = absurd cc
-folded_listed app v (TextIs p x) [] e l f = settled_listed app v (TextIs p x) e l (λ a view. refl)
+folded_listed app v (TextIs p x) [] e l f = settled_listed app v (TextIs p x) e l (λ view refused. refl) (λ a view. refl)
 folded_listed app v (TextIs p x) (want ∷ wants) e l f = absurd cc
-folded_listed app v (CaretIs p at) [] e l f = settled_listed app v (CaretIs p at) e l (λ a view. refl)
+folded_listed app v (CaretIs p at) [] e l f = settled_listed app v (CaretIs p at) e l (λ view refused. refl) (λ a view. refl)
 folded_listed app v (CaretIs p at) (want ∷ wants) e l f = absurd cc
-folded_listed app v (ColumnsIs p n) [] e l f = settled_listed app v (ColumnsIs p n) e l (λ a view. refl)
+folded_listed app v (ColumnsIs p n) [] e l f = settled_listed app v (ColumnsIs p n) e l (λ view refused. refl) (λ a view. refl)
 folded_listed app v (ColumnsIs p n) (want ∷ wants) e l f = absurd cc
-folded_listed app v (ChildAdded child) wants e l f = quiet_listed app v (ChildAdded child) e wants l tt (no_reload (has (is_path child) v) f)
-folded_listed app v (Name p x) wants e l f = quiet_listed app v (Name p x) e wants l tt refl
-folded_listed app v (Description p x) wants e l f = quiet_listed app v (Description p x) e wants l tt refl
-folded_listed app v (Role p x) wants e l f = quiet_listed app v (Role p x) e wants l tt refl
-folded_listed app v (State p s on) wants e l f = quiet_listed app v (State p s on) e wants l tt refl
-folded_listed app v (Inserted p at x) wants e l f = quiet_listed app v (Inserted p at x) e wants l tt refl
-folded_listed app v (Deleted p at n x) wants e l f = quiet_listed app v (Deleted p at n x) e wants l tt refl
-folded_listed app v (Caret p at) wants e l f = quiet_listed app v (Caret p at) e wants l tt refl
-folded_listed app v Nothing wants e l f = quiet_listed app v Nothing e wants l tt refl
+folded_listed app v (ChildAdded child) wants e l f = quiet_listed app v (ChildAdded child) e wants l tt (λ view refused. refl) (no_reload (has (is_path child) v) f)
+folded_listed app v (Name p x) wants e l f = quiet_listed app v (Name p x) e wants l tt (λ view refused. refl) refl
+folded_listed app v (Description p x) wants e l f = quiet_listed app v (Description p x) e wants l tt (λ view refused. refl) refl
+folded_listed app v (Role p x) wants e l f = quiet_listed app v (Role p x) e wants l tt (λ view refused. refl) refl
+folded_listed app v (State p s on) wants e l f = quiet_listed app v (State p s on) e wants l tt (λ view refused. refl) refl
+folded_listed app v (Inserted p at x) wants e l f = quiet_listed app v (Inserted p at x) e wants l tt (λ view refused. refl) refl
+folded_listed app v (Deleted p at n x) wants e l f = quiet_listed app v (Deleted p at n x) e wants l tt (λ view refused. refl) refl
+folded_listed app v (Caret p at) wants e l f = quiet_listed app v (Caret p at) e wants l tt (λ view refused. refl) refl
+folded_listed app v Nothing wants e l f = quiet_listed app v Nothing e wants l tt (λ view refused. refl) refl
 
 -- what was listed is put in place
 pub listed_put : (r : Result (Vec (List ℕ × PartName) Global) NoMemory) (new those : List (List ℕ × PartName)) → IfOk r (λ wants. wants.items ≡ those)

@@ -5,6 +5,7 @@ pub mod Firsts
 pub mod Parts
 pub mod Rows
 pub mod Fewer
+pub mod Anew
 pub mod Adding
 pub mod News
 pub mod Plans

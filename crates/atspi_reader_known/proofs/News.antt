@@ -1,5 +1,5 @@
 -- What is wanted of an application after a news, where nothing was wanted before.
-use Rattle.std.proofs.Common.{◌≡◌, ℕ, Bool, true, false, cond, inl, inr, List, [], ◌∷◌, Option, Some, None, refl, sym, ap, ◌∙◌}
+use Rattle.std.proofs.Common.{◌≡◌, ℕ, Bool, true, false, cond, inl, inr, List, [], ◌∷◌, Option, Some, None, ◌++◌, append-nil, refl, sym, ap, subst, ◌∙◌}
 use Rattle.std.specs.Prelude.{◌||◌, bytes_eq}
 use Rattle.std.specs.Option.{option_map}
 use Rattle.atspi_tree_model.specs.declared.view.Row.{Row}
@@ -15,9 +15,10 @@ use Rattle.atspi_speech.specs.Looked.{adds}
 use Rattle.atspi_protocol.specs.declared.news.part.PartName.{PartName}
 use Rattle.atspi_protocol.specs.declared.following.question.Question.TheVariants.{GetItems, GetPart}
 use Rattle.atspi_protocol.specs.following.ReaderState.{Followed}
-use Rattle.atspi_protocol.specs.following.Takes.{folded}
+use Rattle.atspi_protocol.specs.following.Takes.{folded, still_refused}
 use Rattle.atspi_protocol.specs.following.Wishes.{wishes_of}
-use Rattle.atspi_reader_known.specs.Wanted.{first, first_part, first_wanted, part_question, wish_at}
+use Rattle.atspi_reader_known.specs.Wanted.{first, first_part, first_wanted, part_question, refusing, wish_at}
+use Rattle.atspi_reader_known.proofs.Anew.{adds_new, fresh_still, settled_still}
 use Rattle.atspi_reader_known.proofs.Firsts.{none_mapped}
 use Rattle.atspi_reader_known.proofs.Rows.{first_held}
 use Rattle.atspi_reader_known.proofs.Fewer.{IsSettled, AddsNone, effect_settled, renewed_settled, moved_settled}
@@ -91,43 +92,70 @@ settled app v e w = by app.reload refl
 
 -- after a news
 abbrev pub after_news : Followed → Forest Row → News → Followed
-after_news app v news = record app { view = Some (effect app.root app.name v news); reload = app.reload || marks_reload v news }
+after_news app v news = record app {
+  view = Some (effect app.root app.name v news);
+  reload = app.reload || marks_reload v news;
+  refused = still_refused v news app.refused;
+}
 
-module _ (app : Followed) (v : Forest Row) (f : app.reload ≡ false) (h : EachLabel (IsSettled app.refused) v) where
-  no_more : (news : News) → marks_reload v news ≡ false → AddsNone news → first (wishes_of (after_news app v news)) ≡ None
-  no_more news m none =
-      first_held (after_news app v news) (effect app.root app.name v news) refl (rw (f, m) refl)
-      ∙ ap (option_map (part_question app.name)) (none_wanted app.refused _ (each_labels (IsSettled app.refused) _ (effect_settled app.refused app.root app.name v h news none)))
-
+module _ (app : Followed) (v : Forest Row) (f : app.reload ≡ false) where
   cond_questions : (b : Bool) (path : List ℕ) (o : Option PartName)
       → option_map (part_question app.name) (cond b (option_map (λ (part : PartName). (path, part)) o) None) ≡ cond b (option_map (GetPart app.name path) o) None
   cond_questions true path None = refl
   cond_questions true path (Some part) = refl
   cond_questions false path o = refl
 
-  child_by : (child : List ℕ) (b : Bool) → has (is_path child) v ≡ b → first (wishes_of (after_news app v (ChildAdded child))) ≡ cond b None (Some (GetItems app.name))
-  child_by child true e = no_more (ChildAdded child) (rw e refl) tt
-  child_by child false e = rw (f, e) refl
+  -- after an item, with more that is refused: of the row that it adds no part was refused before
+  module _ (item : Item) (more : List (List ℕ × PartName)) where
+    abbrev is_new : Bool
+    is_new = adds app.root app.name (find (is_path item.object.path) v) (has (is_path item.parent.path) v) item
 
-  pub news_wanted : (news : News) → first (wishes_of (after_news app v news)) ≡ wish_at app v news
-  news_wanted (NewItem item) =
-      first_held (after_news app v (NewItem item)) (item_effect app.root app.name item v) refl (rw f refl)
-      ∙ ap (option_map (part_question app.name)) (item_wanted app.refused app.root app.name item v h)
-      ∙ cond_questions (adds app.root app.name (find (is_path item.object.path) v) (has (is_path item.parent.path) v) item) item.object.path (first_part app.refused (fresh item))
-  news_wanted (Removed path) = no_more (Removed path) refl tt
-  news_wanted (ChildAdded child) = child_by child (has (is_path child) v) refl
-  news_wanted (ChildRemoved p i child) = no_more (ChildRemoved p i child) refl tt
-  news_wanted (Name p x) = no_more (Name p x) refl tt
-  news_wanted (Description p x) = no_more (Description p x) refl tt
-  news_wanted (Role p x) = no_more (Role p x) refl tt
-  news_wanted (State p s on) = no_more (State p s on) refl tt
-  news_wanted (Inserted p at x) = no_more (Inserted p at x) refl tt
-  news_wanted (Deleted p at n x) = no_more (Deleted p at n x) refl tt
-  news_wanted (Caret p at) = no_more (Caret p at) refl tt
-  news_wanted (TextIs p x) = no_more (TextIs p x) refl tt
-  news_wanted (CaretIs p at) = no_more (CaretIs p at) refl tt
-  news_wanted (ColumnsIs p n) = no_more (ColumnsIs p n) refl tt
-  news_wanted Nothing = no_more Nothing refl tt
+    abbrev then_refused : List (List ℕ × PartName)
+    then_refused = still_refused v (NewItem item) app.refused ++ more
+
+    where_new : (b : Bool) → is_new ≡ b
+        → cond b (option_map (GetPart app.name item.object.path) (first_part then_refused (fresh item))) None
+        ≡ cond b (option_map (GetPart app.name item.object.path) (first_part more (fresh item))) None
+    where_new true e = ap (option_map (GetPart app.name item.object.path)) (fresh_still v item app.refused more (adds_new app.root app.name v (has (is_path item.parent.path) v) item e))
+    where_new false e = refl
+
+    pub item_after : EachLabel (IsSettled (app.refused ++ more)) v
+        → first (wishes_of (refusing more (after_news app v (NewItem item)))) ≡ cond is_new (option_map (GetPart app.name item.object.path) (first_part more (fresh item))) None
+    item_after h =
+        first_held (refusing more (after_news app v (NewItem item))) (item_effect app.root app.name item v) refl (rw f refl)
+        ∙ ap (option_map (part_question app.name)) (item_wanted then_refused app.root app.name item v (settled_still v item app.refused more h))
+        ∙ cond_questions is_new item.object.path (first_part then_refused (fresh item))
+        ∙ where_new is_new refl
+
+  module _ (h : EachLabel (IsSettled app.refused) v) where
+    no_more : (news : News) → marks_reload v news ≡ false → AddsNone news → still_refused v news app.refused ≡ app.refused → first (wishes_of (after_news app v news)) ≡ None
+    no_more news m none same =
+        first_held (after_news app v news) (effect app.root app.name v news) refl (rw (f, m) refl)
+        ∙ ap (λ (r : List (List ℕ × PartName)). option_map (part_question app.name) (first_wanted r (labels (effect app.root app.name v news)))) same
+        ∙ ap (option_map (part_question app.name)) (none_wanted app.refused _ (each_labels (IsSettled app.refused) _ (effect_settled app.refused app.root app.name v h news none)))
+
+    child_by : (child : List ℕ) (b : Bool) → has (is_path child) v ≡ b → first (wishes_of (after_news app v (ChildAdded child))) ≡ cond b None (Some (GetItems app.name))
+    child_by child true e = no_more (ChildAdded child) (rw e refl) tt refl
+    child_by child false e = rw (f, e) refl
+
+    pub news_wanted : (news : News) → first (wishes_of (after_news app v news)) ≡ wish_at app v news
+    news_wanted (NewItem item) =
+        ap (λ (r : List (List ℕ × PartName)). first (wishes_of (record (after_news app v (NewItem item)) { refused = r }))) (sym (append-nil (still_refused v (NewItem item) app.refused)))
+        ∙ item_after item [] (subst (λ (r : List (List ℕ × PartName)). EachLabel (IsSettled r) v) (sym (append-nil app.refused)) h)
+    news_wanted (Removed path) = no_more (Removed path) refl tt refl
+    news_wanted (ChildAdded child) = child_by child (has (is_path child) v) refl
+    news_wanted (ChildRemoved p i child) = no_more (ChildRemoved p i child) refl tt refl
+    news_wanted (Name p x) = no_more (Name p x) refl tt refl
+    news_wanted (Description p x) = no_more (Description p x) refl tt refl
+    news_wanted (Role p x) = no_more (Role p x) refl tt refl
+    news_wanted (State p s on) = no_more (State p s on) refl tt refl
+    news_wanted (Inserted p at x) = no_more (Inserted p at x) refl tt refl
+    news_wanted (Deleted p at n x) = no_more (Deleted p at n x) refl tt refl
+    news_wanted (Caret p at) = no_more (Caret p at) refl tt refl
+    news_wanted (TextIs p x) = no_more (TextIs p x) refl tt refl
+    news_wanted (CaretIs p at) = no_more (CaretIs p at) refl tt refl
+    news_wanted (ColumnsIs p n) = no_more (ColumnsIs p n) refl tt refl
+    news_wanted Nothing = no_more Nothing refl tt refl
 
 pub news_wish_is : (app : Followed) (v : Forest Row) (news : News) → app.view ≡ Some v → wishes_of app ≡ [] → wish_at app v news ≡ first (wishes_of (folded news app))
 news_wish_is app v news e w =

@@ -1,13 +1,16 @@
 -- What the sets of refused parts keep.
-use Rattle.std.proofs.Common.{◌≡◌, ℕ, Bool, true, false, cond, List, [], ◌∷◌, ◌++◌, refl, sym, ap, ◌∙◌}
-use Rattle.std.specs.Prelude.{◌&&◌, ◌||◌, bytes_eq}
+use Rattle.std.proofs.Common.{◌≡◌, ℕ, suc, ◌+◌, ◌≤◌, Bool, true, false, cond, not, List, [], ◌∷◌, ◌++◌, length, Option, Some, None, refl, sym, ap, subst, ◌∙◌, arith}
+use Rattle.std.specs.Prelude.{◌&&◌, ◌||◌, bytes_eq, nat_le, is_some, IfSome, Result, Ok, Err, OnErr}
 use Rattle.std.specs.BTreeSet.{contains_text}
+use Rattle.std.proofs.lemmas.Bool.Decides.{nat_tests}
 use Rattle.std.proofs.lemmas.List.Folds.{list_any-append}
+use Rattle.std.proofs.lemmas.Slice.Eq.{bytes_eq-Decides}
 use Rattle.atspi_protocol.specs.declared.news.part.PartName.{PartName}
 use Rattle.atspi_protocol.specs.declared.news.part.PartName.TheVariants.{Text, Caret, Columns}
-use Rattle.atspi_protocol.specs.following.Wishes.{is_refused, same_part}
+use Rattle.atspi_protocol.specs.following.Wishes.{is_refused, of_others, same_part}
 use Rattle.atspi_reader_known.specs.declared.refused.Parts.{Parts}
-use Rattle.atspi_reader_known.specs.Refusals.{AreSame, Puts, has_part}
+use Rattle.atspi_reader_known.specs.Refusals.{AreSame, AreWithin, Clears, Puts, counting, counts, has_part, or_place}
+use Rattle.atspi_reader_known.proofs.Anew.{none_of, others_same}
 
 at_same : (b t s : Bool) → s ≡ cond b true t → s ≡ (t || (b && true))
 at_same true true s e = e
@@ -24,6 +27,25 @@ at_other false false = refl
 or_end : (t : Bool) → (t || false) ≡ t
 or_end true = refl
 or_end false = refl
+
+-- two paths are the same, or not, either way around
+bytes_turned : (one other : List ℕ) → bytes_eq one other ≡ bytes_eq other one
+bytes_turned one other = by (bytes_eq one other) (bytes_eq other one) refl refl
+  where
+    by : (x y : Bool) → bytes_eq one other ≡ x → bytes_eq other one ≡ y → x ≡ y
+    by true true e f = refl
+    by false false e f = refl
+    by true false e f = sym ((bytes_eq-Decides other one).1 (sym ((bytes_eq-Decides one other).0 e))) ∙ f
+    by false true e f = sym e ∙ (bytes_eq-Decides one other).1 (sym ((bytes_eq-Decides other one).0 f))
+
+-- what was refused of the rows with other paths
+refused_others : (path : List ℕ) (refused : List (List ℕ × PartName)) (q : List ℕ) (part : PartName)
+    → is_refused (of_others path refused) q part ≡ cond (bytes_eq path q) false (is_refused refused q part)
+refused_others path refused q part = by (bytes_eq path q) refl
+  where
+    by : (b : Bool) → bytes_eq path q ≡ b → is_refused (of_others path refused) q part ≡ cond b false (is_refused refused q part)
+    by true e = ap (λ (p : List ℕ). is_refused (of_others path refused) p part) (sym ((bytes_eq-Decides path q).0 e)) ∙ none_of path refused part
+    by false e = others_same path refused q part (bytes_turned q path ∙ e)
 
 -- no part
 pub none_same : (parts : Parts) → ((q : List ℕ) → contains_text parts.texts q ≡ false) → ((q : List ℕ) → contains_text parts.carets q ≡ false)
@@ -68,3 +90,163 @@ module _ (old new : Parts) (path : List ℕ) where
       k q p ∙ ap (λ t. t || (bytes_eq path q && same_part part p)) (h q p)
       ∙ ap (λ t. is_refused items q p || t) (sym (or_end (bytes_eq path q && same_part part p)))
       ∙ sym (list_any-append (λ (r : List ℕ × PartName). bytes_eq r.0 q && same_part r.1 p) items ((path, part) ∷ []))
+
+  -- a path that is taken out of each set
+  pub clears_parts : ((q : List ℕ) → contains_text new.texts q ≡ cond (bytes_eq path q) false (contains_text old.texts q))
+      → ((q : List ℕ) → contains_text new.carets q ≡ cond (bytes_eq path q) false (contains_text old.carets q))
+      → ((q : List ℕ) → contains_text new.columns q ≡ cond (bytes_eq path q) false (contains_text old.columns q)) → Clears old new path
+  clears_parts t c k q Text = t q
+  clears_parts t c k q Caret = c q
+  clears_parts t c k q Columns = k q
+
+  pub same_cleared : (items : List (List ℕ × PartName)) → AreSame old items → Clears old new path → AreSame new (of_others path items)
+  same_cleared items h k q p = k q p ∙ ap (cond (bytes_eq path q) false) (h q p) ∙ sym (refused_others path items q p)
+
+-- places of a path
+module _ (path : List ℕ) (place : ℕ) where
+  or_same : (o : Option ℕ) → is_some o ≡ true → o ≡ or_place o place
+  or_same None e = absurd cc
+  or_same (Some at) e = refl
+
+  or_new : (o : Option ℕ) → is_some o ≡ false → Some place ≡ or_place o place
+  or_new None e = refl
+  or_new (Some at) e = absurd cc
+
+  -- one that has a place keeps it
+  pub place_kept : (f : List ℕ → Option ℕ) → is_some (f path) ≡ true → (q : List ℕ) → f q ≡ cond (bytes_eq path q) (or_place (f q) place) (f q)
+  place_kept f e q = by (bytes_eq path q) refl
+    where
+      by : (b : Bool) → bytes_eq path q ≡ b → f q ≡ cond b (or_place (f q) place) (f q)
+      by true same = or_same (f q) (ap (λ (p : List ℕ). is_some (f p)) (sym ((bytes_eq-Decides path q).0 same)) ∙ e)
+      by false same = refl
+
+  -- and one without gets it
+  pub place_put : (f : List ℕ → Option ℕ) → is_some (f path) ≡ false → (q : List ℕ)
+      → cond (bytes_eq path q) (Some place) (f q) ≡ cond (bytes_eq path q) (or_place (f q) place) (f q)
+  place_put f e q = by (bytes_eq path q) refl
+    where
+      by : (b : Bool) → bytes_eq path q ≡ b → cond b (Some place) (f q) ≡ cond b (or_place (f q) place) (f q)
+      by true same = or_new (f q) (ap (λ (p : List ℕ). is_some (f p)) (sym ((bytes_eq-Decides path q).0 same)) ∙ e)
+      by false same = refl
+
+-- those that count, as the places change
+pub within_none : (f : List ℕ → Option ℕ) (end : ℕ) → ((q : List ℕ) → f q ≡ None) → AreWithin f end
+within_none f end none = λ q. subst (λ (o : Option ℕ). IfSome o (λ at. at ≤ end)) (sym (none q)) tt
+
+later : (at place : ℕ) → suc at ≤ place → nat_le place at ≡ false
+later at place l = grind (arith, nat_tests)
+
+here : (at place : ℕ) → at ≤ place → nat_le at place ≡ true
+here at place l = grind (arith, nat_tests)
+
+module _ (f g : List ℕ → Option ℕ) where
+  pub counting_same : ((q : List ℕ) → g q ≡ f q) → (at : ℕ) (parts : List (List ℕ × PartName)) → counting g at parts ≡ counting f at parts
+  counting_same h at [] = refl
+  counting_same h at (r ∷ rs) =
+      ap (λ (o : Option ℕ). cond (counts o at) (r ∷ counting g (suc at) rs) (counting g (suc at) rs)) (h r.0)
+      ∙ ap (λ (l : List (List ℕ × PartName)). cond (counts (f r.0) at) (r ∷ l) l) (counting_same h (suc at) rs)
+
+  pub within_same : (end : ℕ) → ((q : List ℕ) → g q ≡ f q) → AreWithin f end → AreWithin g end
+  within_same end h w = λ q. subst (λ (o : Option ℕ). IfSome o (λ at. at ≤ end)) (sym (h q)) (w q)
+
+  -- a path without a place gets one
+  module _ (path : List ℕ) (place : ℕ) (h : (q : List ℕ) → g q ≡ cond (bytes_eq path q) (or_place (f q) place) (f q)) where
+    pub counting_noted : (at : ℕ) (parts : List (List ℕ × PartName)) → at + length parts ≤ place → counting g at parts ≡ counting f at parts
+    counting_noted at [] l = refl
+    counting_noted at (r ∷ rs) l =
+        ap (λ (o : Option ℕ). cond (counts o at) (r ∷ counting g (suc at) rs) (counting g (suc at) rs)) (h r.0)
+        ∙ ap (λ (b : Bool). cond b (r ∷ counting g (suc at) rs) (counting g (suc at) rs)) (by (bytes_eq path r.0) (f r.0) (omega (arith, l)))
+        ∙ ap (λ (l : List (List ℕ × PartName)). cond (counts (f r.0) at) (r ∷ l) l) (counting_noted (suc at) rs (omega (arith, l)))
+      where
+        by : (b : Bool) (o : Option ℕ) → suc at ≤ place → counts (cond b (or_place o place) o) at ≡ counts o at
+        by true None l = later at place l
+        by true (Some since) l = refl
+        by false o l = refl
+
+    pub within_noted : (end : ℕ) → place ≤ end → AreWithin f place → AreWithin g end
+    within_noted end l w = λ q. subst (λ (o : Option ℕ). IfSome o (λ at. at ≤ end)) (sym (h q)) (by (bytes_eq path q) (f q) (w q))
+      where
+        by : (b : Bool) (o : Option ℕ) → IfSome o (λ at. at ≤ place) → IfSome (cond b (or_place o place) o) (λ at. at ≤ end)
+        by true None k = l
+        by true (Some at) k = omega (arith, k, l)
+        by false None k = k
+        by false (Some at) k = omega (arith, k, l)
+
+    counts_noted : AreWithin f place → counts (g path) place ≡ true
+    counts_noted w =
+        ap (λ (o : Option ℕ). counts o place) (h path ∙ ap (λ (b : Bool). cond b (or_place (f path) place) (f path)) ((bytes_eq-Decides path path).1 refl))
+        ∙ by (f path) (w path)
+      where
+        by : (o : Option ℕ) → IfSome o (λ at. at ≤ place) → counts (or_place o place) place ≡ true
+        by None k = here place place (omega arith)
+        by (Some at) k = here at place k
+
+    counting_last : (part : PartName) (at : ℕ) (parts : List (List ℕ × PartName)) → at + length parts ≡ place → counts (g path) place ≡ true
+        → counting g at (parts ++ (path, part) ∷ []) ≡ counting g at parts ++ (path, part) ∷ []
+    counting_last part at [] e c =
+        let there : at ≡ place = omega (arith, e) in
+        ap (λ (n : ℕ). cond (counts (g path) n) ((path, part) ∷ []) []) there ∙ ap (λ (b : Bool). cond b ((path, part) ∷ []) []) c
+    counting_last part at (r ∷ rs) e c = by (counts (g r.0) at) (counting_last part (suc at) rs (omega (arith, e)) c)
+      where
+        by : (b : Bool) → counting g (suc at) (rs ++ (path, part) ∷ []) ≡ counting g (suc at) rs ++ (path, part) ∷ []
+            → cond b (r ∷ counting g (suc at) (rs ++ (path, part) ∷ [])) (counting g (suc at) (rs ++ (path, part) ∷ []))
+            ≡ cond b (r ∷ counting g (suc at) rs) (counting g (suc at) rs) ++ (path, part) ∷ []
+        by true same = ap (λ (l : List (List ℕ × PartName)). r ∷ l) same
+        by false same = same
+
+    pub counting_pushed : (part : PartName) (parts : List (List ℕ × PartName)) → length parts ≡ place → AreWithin f place
+        → counting g 0 (parts ++ (path, part) ∷ []) ≡ counting f 0 parts ++ (path, part) ∷ []
+    counting_pushed part parts e w =
+        counting_last part 0 parts (omega (arith, e)) (counts_noted w)
+        ∙ ap (λ (l : List (List ℕ × PartName)). l ++ (path, part) ∷ []) (counting_noted 0 parts (omega (arith, e)))
+
+  -- a path loses its place
+  module _ (path : List ℕ) (h : (q : List ℕ) → g q ≡ cond (bytes_eq path q) None (f q)) where
+    none_counts : (b : Bool) (o : Option ℕ) (at : ℕ) → counts (cond b None o) at ≡ cond b false (counts o at)
+    none_counts true o at = refl
+    none_counts false o at = refl
+
+    pub counting_gone : (at : ℕ) (parts : List (List ℕ × PartName)) → counting g at parts ≡ of_others path (counting f at parts)
+    counting_gone at [] = refl
+    counting_gone at (r ∷ rs) =
+        ap (λ (o : Option ℕ). cond (counts o at) (r ∷ counting g (suc at) rs) (counting g (suc at) rs)) (h r.0 ∙ ap (λ (b : Bool). cond b None (f r.0)) (bytes_turned path r.0))
+        ∙ ap (λ (b : Bool). cond b (r ∷ counting g (suc at) rs) (counting g (suc at) rs)) (none_counts (bytes_eq r.0 path) (f r.0) at)
+        ∙ by (bytes_eq r.0 path) (counts (f r.0) at) refl (counting_gone (suc at) rs)
+      where
+        by : (same counted : Bool) → bytes_eq r.0 path ≡ same → counting g (suc at) rs ≡ of_others path (counting f (suc at) rs)
+            → cond (cond same false counted) (r ∷ counting g (suc at) rs) (counting g (suc at) rs)
+            ≡ of_others path (cond counted (r ∷ counting f (suc at) rs) (counting f (suc at) rs))
+        by true true e rest = rest ∙ sym (ap (λ (b : Bool). cond (not b) (r ∷ of_others path (counting f (suc at) rs)) (of_others path (counting f (suc at) rs))) e)
+        by true false e rest = rest
+        by false true e rest =
+            ap (λ (l : List (List ℕ × PartName)). r ∷ l) rest
+            ∙ sym (ap (λ (b : Bool). cond (not b) (r ∷ of_others path (counting f (suc at) rs)) (of_others path (counting f (suc at) rs))) e)
+        by false false e rest = rest
+
+    pub within_gone : (end : ℕ) → AreWithin f end → AreWithin g end
+    within_gone end w = λ q. subst (λ (o : Option ℕ). IfSome o (λ at. at ≤ end)) (sym (h q)) (by (bytes_eq path q) (f q) (w q))
+      where
+        by : (b : Bool) (o : Option ℕ) → IfSome o (λ at. at ≤ end) → IfSome (cond b None o) (λ at. at ≤ end)
+        by true o k = tt
+        by false o k = k
+
+-- of a path without a place no part counts
+pub counting_none : (f : List ℕ → Option ℕ) (path : List ℕ) → f path ≡ None → (at : ℕ) (parts : List (List ℕ × PartName))
+    → of_others path (counting f at parts) ≡ counting f at parts
+counting_none f path n at [] = refl
+counting_none f path n at (r ∷ rs) = by (bytes_eq r.0 path) (counts (f r.0) at) refl refl (counting_none f path n (suc at) rs)
+  where
+    by : (same counted : Bool) → bytes_eq r.0 path ≡ same → counts (f r.0) at ≡ counted → of_others path (counting f (suc at) rs) ≡ counting f (suc at) rs
+        → of_others path (cond counted (r ∷ counting f (suc at) rs) (counting f (suc at) rs)) ≡ cond counted (r ∷ counting f (suc at) rs) (counting f (suc at) rs)
+    by same false e c rest = rest
+    by false true e c rest =
+        ap (λ (b : Bool). cond (not b) (r ∷ of_others path (counting f (suc at) rs)) (of_others path (counting f (suc at) rs))) e
+        ∙ ap (λ (l : List (List ℕ × PartName)). r ∷ l) rest
+    by true true e c rest =
+        let z : false ≡ true = sym (ap (λ (o : Option ℕ). counts o at) (ap f ((bytes_eq-Decides r.0 path).0 e) ∙ n)) ∙ c in
+        absurd cc
+
+-- what holds in any case holds where an error is handed on
+pub behind_error : {A E P : Type 0} (r : Result A E) → P → OnErr r P
+behind_error (Ok x) p = tt
+behind_error (Err e) p = p

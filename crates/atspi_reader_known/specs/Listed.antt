@@ -71,7 +71,7 @@ follows wants view news = true
 abbrev pub fresh_wants : Followed → Forest Row → News → List (List ℕ × PartName)
 fresh_wants app view (NewItem item) =
     cond (adds app.root app.name (find (is_path item.object.path) view) (has (is_path item.parent.path) view) item)
-    (row_wants app.refused (fresh item)) []
+    (row_wants [] (fresh item)) []
 fresh_wants app view news = []
 
 -- these, or others where there are none

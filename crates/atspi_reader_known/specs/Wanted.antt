@@ -57,6 +57,6 @@ abbrev pub wish_at : Followed → Forest Row → News → Option Question
 wish_at app view (ChildAdded child) = cond (has (is_path child) view) None (Some (GetItems app.name))
 wish_at app view (NewItem item) =
     cond (adds app.root app.name (find (is_path item.object.path) view) (has (is_path item.parent.path) view) item)
-    (option_map (GetPart app.name item.object.path) (first_part app.refused (fresh item)))
+    (option_map (GetPart app.name item.object.path) (first_part [] (fresh item)))
     None
 wish_at app view news = None

@@ -1,6 +1,6 @@
 //! An application that a reader knows.
 
-ghost use Rattle.std.specs.Prelude.{◌≡◌, [], ◌++◌, ◌||◌, ◌&&◌, false, bytes_eq, IfOk, OnOk, OnErr, None, Some};
+ghost use Rattle.std.specs.Prelude.{◌≡◌, [], ◌++◌, ◌||◌, ◌&&◌, false, cond, bytes_eq, IfOk, OnOk, OnErr, None, Some};
 ghost use Rattle.std.specs.Option.{option_map};
 ghost use Rattle.atspi_cache_arena.specs.Sights.{sights};
 ghost use Rattle.atspi_tree_model.specs.Forest.{Forest, find, has};
@@ -9,11 +9,12 @@ ghost use Rattle.atspi_tree_model.specs.declared.news.News.TheVariants.{ChildAdd
 ghost use Rattle.atspi_speech.specs.Looked.{adds};
 ghost use Rattle.atspi_tree_model.specs.declared.view.Row.{Row};
 ghost use Rattle.atspi_protocol.specs.following.ReaderState.{Followed, is_named};
-ghost use Rattle.atspi_protocol.specs.following.Wishes.{wishes_of};
+ghost use Rattle.atspi_protocol.specs.following.Wishes.{of_others, wishes_of};
 ghost use Rattle.atspi_protocol.specs.following.Replied as replied;
 ghost use Rattle.atspi_protocol.specs.following.Takes as takes;
 ghost use Rattle.atspi_reader_known.specs.Kept.{kept, lines_in, closing_in};
 ghost use Rattle.atspi_reader_known.specs.Listed.{fresh_wants};
+ghost use Rattle.atspi_reader_known.specs.Refusals.{without};
 ghost use Rattle.atspi_reader_known.specs.Wanted.{first, lent, part_question, refusing, wish_at};
 
 use crate::fresh::fresh_part;
@@ -219,12 +220,41 @@ impl App {
             drop(news);
             return Ok(());
         }
+        let gone = self.gone_refusals(&news)?;
         let stays = both(self.listed, follows(&self.cache, &self.wants, &news));
         let fresh = self.fresh_wants(&news);
         let marks = self.cache.fold(HERE, news)?;
+        self.refused.forget(gone);
         self.reload = is_either(self.reload, marks);
         self.listed = both(stays, put_fresh(&mut self.wants, fresh));
         Ok(())
+    }
+
+    /// The path of which parts were refused of a row that is gone, where a news has an item of that path; given before
+    /// it is taken.
+    fn gone_refusals(&self, news: &News) -> Result<Option<Path>, NoMemory>
+        ensures { (view : Forest Row) → self.now.view ≡ Some view
+            → IfOk result (λ path. without path self.now.refused ≡ takes.still_refused view news.now self.now.refused) }
+    {
+        match news {
+            News::Item(item) => self.gone_of(&item.object.path),
+            _ => Ok(None),
+        }
+    }
+
+    /// This path, where it has no row, and parts of it may have been refused.
+    fn gone_of(&self, path: &Path) -> Result<Option<Path>, NoMemory>
+        ensures { (view : Forest Row) → self.now.view ≡ Some view
+            → IfOk result (λ gone. without gone self.now.refused
+            ≡ cond (has (is_path path.now) view) self.now.refused (of_others path.now self.now.refused)) }
+    {
+        if self.cache.find(HERE, path).is_some() {
+            return Ok(None);
+        }
+        if !self.refused.may_have(path) {
+            return Ok(None);
+        }
+        Ok(Some(path.copy(self.alloc)?))
     }
 
     /// A part of a row was told, which never asks for all again. After want of memory all is as before.
@@ -402,7 +432,7 @@ impl App {
         if !self.adds(item) {
             return Ok(Wants::new(self.alloc));
         }
-        item_wants(self.alloc, &self.refused, item)
+        item_wants(self.alloc, item)
     }
 
     /// What an item makes wanted.
@@ -413,7 +443,7 @@ impl App {
         if !self.adds(item) {
             return Ok(None);
         }
-        match fresh_part(&self.refused, item) {
+        match fresh_part(item) {
             Some(part) => {
                 let name = self.name.copy(alloc)?;
                 let path = item.object.path.copy(alloc)?;

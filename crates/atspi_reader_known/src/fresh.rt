@@ -1,11 +1,10 @@
 //! The parts that an item of a new node names.
 
-ghost use Rattle.std.specs.Prelude.{◌≡◌, true, bytes_eq};
+ghost use Rattle.std.specs.Prelude.{◌≡◌, [], true, bytes_eq};
 ghost use Rattle.atspi_cache.specs.inner.Plain.{is_plain};
 ghost use Rattle.atspi_tree_model.specs.News as news;
 ghost use Rattle.atspi_reader_known.specs.Wanted.{first_part};
 
-use crate::refused::Refused;
 use atspi_base::Text;
 use atspi_protocol::news::PartName;
 use atspi_tree_model::Item;
@@ -31,20 +30,15 @@ pub(crate) fn offers(word: &str, interfaces: &[Text]) -> bool
     false
 }
 
-/// The first unknown part of the row that an item of a new node makes, if it was not refused.
-pub(crate) fn fresh_part(refused: &Refused, item: &Item) -> Option<PartName>
-    ensures { result ≡ first_part refused.now (news.fresh item.now) }
+/// The first unknown part of the row that an item of a new node makes: of such a row none was refused.
+pub(crate) fn fresh_part(item: &Item) -> Option<PartName>
+    ensures { result ≡ first_part [] (news.fresh item.now) }
 {
-    let path = &item.object.path;
     let interfaces = item.interfaces.as_slice();
-    let has_text = offers("org.a11y.atspi.Text", interfaces);
-    if has_text && !refused.has(path, PartName::Text) {
+    if offers("org.a11y.atspi.Text", interfaces) {
         return Some(PartName::Text);
     }
-    if has_text && !refused.has(path, PartName::Caret) {
-        return Some(PartName::Caret);
-    }
-    if offers("org.a11y.atspi.Table", interfaces) && !refused.has(path, PartName::Columns) {
+    if offers("org.a11y.atspi.Table", interfaces) {
         return Some(PartName::Columns);
     }
     None

@@ -95,25 +95,19 @@ fn all_wants(
     Ok(wants)
 }
 
-/// The parts of the row that an item of a new node makes, if they were not refused.
-pub(crate) fn item_wants(alloc: Global, refused: &Refused, item: &Item) -> Result<Wants, NoMemory>
-    ensures { IfOk result (λ wants. wants ≡ listed.row_wants refused.now (news.fresh item.now)) }
+/// The parts of the row that an item of a new node makes: of such a row none was refused.
+pub(crate) fn item_wants(alloc: Global, item: &Item) -> Result<Wants, NoMemory>
+    ensures { IfOk result (λ wants. wants ≡ listed.row_wants [] (news.fresh item.now)) }
 {
+    let none = Refused::new(alloc);
     let path = &item.object.path;
     let interfaces = item.interfaces.as_slice();
     let has_text = offers("org.a11y.atspi.Text", interfaces);
     let has_table = offers("org.a11y.atspi.Table", interfaces);
     let mut wants = Vec::new(alloc);
-    push_part(alloc, refused, path, PartName::Text, has_text, &mut wants)?;
-    push_part(alloc, refused, path, PartName::Caret, has_text, &mut wants)?;
-    push_part(
-        alloc,
-        refused,
-        path,
-        PartName::Columns,
-        has_table,
-        &mut wants,
-    )?;
+    push_part(alloc, &none, path, PartName::Text, has_text, &mut wants)?;
+    push_part(alloc, &none, path, PartName::Caret, has_text, &mut wants)?;
+    push_part(alloc, &none, path, PartName::Columns, has_table, &mut wants)?;
     Ok(Wants::of(wants))
 }
 

@@ -1,11 +1,14 @@
 //! The parts that an application would not tell.
 
-ghost use Rattle.std.specs.Prelude.{◌≡◌, ℕ, List, [], ◌∷◌, ◌++◌, true, cond, bytes_eq, OnOk, OnErr};
+ghost use Rattle.std.specs.Prelude.{◌≡◌, ℕ, List, [], ◌∷◌, ◌++◌, true, false, cond, bytes_eq, Some, None, Option, OnOk};
+ghost use Rattle.std.specs.Prelude.{OnErr};
 ghost use Rattle.std.specs.BTreeSet.{contains_text};
 ghost use Rattle.atspi_protocol.specs.declared.news.part.PartName.{PartName};
 ghost use Rattle.atspi_protocol.specs.following.Wishes as wishes;
-ghost use Rattle.atspi_reader_known.specs.Refusals.{AreSame, Puts, has_part};
+ghost use Rattle.atspi_reader_known.specs.Places.{place_in};
+ghost use Rattle.atspi_reader_known.specs.Refusals.{AreSame, Clears, Puts, has_part, or_place, without};
 
+use crate::places::Places;
 use atspi_base::NoMemory;
 use atspi_base::valid_names::Path;
 use atspi_protocol::news::PartName;
@@ -14,11 +17,14 @@ use std::collections::BTreeSet;
 use std::marker::Model;
 
 /// Parts of rows that an application would not tell, each with the path of its row, in the order in which they were
-/// asked for. Whether one is there is looked up, in log n steps.
+/// asked for. Whether one is there is looked up, and those of a path are forgotten, in log n steps.
 #[derive(Drop)]
 pub struct Refused {
     alloc: Global,
+    /// All that were refused, those that were forgotten too.
     items: Vec<(Path, PartName)>,
+    /// From which place among them on the parts of a path count; those of a path without a place were forgotten.
+    since: Places,
     parts: Parts,
 }
 
@@ -39,11 +45,14 @@ impl Model for Refused {
 
     ghost coded = { refused_code };
 
-    ghost view = { λ r. r.items.items };
+    ghost use Rattle.std.specs.Prelude.{length};
+    ghost use Rattle.atspi_reader_known.specs.Places.{place_in};
+    ghost use Rattle.atspi_reader_known.specs.Refusals.{AreSame, AreWithin, counting};
 
-    ghost use Rattle.atspi_reader_known.specs.Refusals.{AreSame};
+    ghost view = { λ r. counting (place_in r.since) 0 r.items.items };
 
-    ghost invariant = { λ r. AreSame r.parts r.items.items };
+    ghost invariant = { λ r. AreSame r.parts (counting (place_in r.since) 0 r.items.items)
+        × AreWithin (place_in r.since) (length r.items.items) };
 }
 
 /// Puts a path into a set. After want of memory the set is as before.
@@ -55,6 +64,26 @@ fn put(alloc: Global, set: &mut BTreeSet<String>, path: &Path) -> Result<(), NoM
     let path = String::from_str(alloc, path.as_str())?;
     set.insert(path)?;
     Ok(())
+}
+
+/// The parts of a path count from a place on, unless they do from one before. After want of memory all is as before.
+fn note(since: &mut Places, path: &Path, place: usize) -> Result<(), NoMemory>
+    ensures ok { OnOk result ((q : List ℕ) → place_in since.new q
+        ≡ cond (bytes_eq path.now q) (or_place (place_in since.old q) place) (place_in since.old q)) }
+    ensures err { OnErr result ((q : List ℕ) → place_in since.new q ≡ place_in since.old q) }
+{
+    let name = path.as_str();
+    if since.find(name).is_some() {
+        return Ok(());
+    }
+    since.put(name, place)
+}
+
+/// Takes a path out of a set.
+fn take_out(set: &mut BTreeSet<String>, path: &Path)
+    ensures { (q : List ℕ) → contains_text set.new q ≡ cond (bytes_eq path.now q) false (contains_text set.old q) }
+{
+    set.remove(path.as_str());
 }
 
 impl Parts {
@@ -91,6 +120,15 @@ impl Parts {
             PartName::Columns => put(alloc, &mut self.columns, path),
         }
     }
+
+    /// No part of the row with this path was refused.
+    fn clear(&mut self, path: &Path)
+        ensures { Clears self.old self.new path.now }
+    {
+        take_out(&mut self.texts, path);
+        take_out(&mut self.carets, path);
+        take_out(&mut self.columns, path);
+    }
 }
 
 impl Refused {
@@ -101,6 +139,7 @@ impl Refused {
         Refused {
             alloc,
             items: Vec::new(alloc),
+            since: Places::new(alloc),
             parts: Parts::new(alloc),
         }
     }
@@ -118,10 +157,28 @@ impl Refused {
         ensures err { OnErr result (self.new ≡ self.old) }
     {
         self.items.reserve(1)?;
+        note(&mut self.since, &path, self.items.len())?;
         self.parts.put(self.alloc, &path, part)?;
         match self.items.push((path, part)) {
             Ok(()) => Ok(()),
             Err(_) => unreachable!(),
+        }
+    }
+
+    /// Whether a part of the row with this path may be among them: where it is not so, none is.
+    pub fn may_have(&self, path: &Path) -> bool
+        ensures { result ≡ false → without (Some path.now) self.now ≡ self.now }
+    {
+        self.since.find(path.as_str()).is_some()
+    }
+
+    /// The parts of the row with this path, if one is given, are no longer among them.
+    pub fn forget(&mut self, path: Option<Path>)
+        ensures { self.new ≡ without path self.old }
+    {
+        if let Some(path) = path {
+            self.since.remove(path.as_str());
+            self.parts.clear(&path);
         }
     }
 }

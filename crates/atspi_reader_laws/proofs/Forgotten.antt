@@ -1,18 +1,20 @@
 -- Which applications are forgotten.
-use Rattle.std.proofs.Common.{◌≡◌, ℕ, Bool, true, false, List, Option, Some, None, refl, ap, ◌∙◌, inl, inr}
-use Rattle.std.specs.Prelude.{is_some}
+use Rattle.std.proofs.Common.{◌≡◌, ℕ, Bool, true, false, List, Option, Some, None, refl, sym, ap, ◌∙◌, inl, inr}
+use Rattle.std.specs.Prelude.{◌⊎◌, is_some}
 use Rattle.std.specs.Option.{option_map}
 use Rattle.atspi_message.specs.Envelope.{Envelope}
 use Rattle.atspi_tree_model.specs.declared.news.Item.{Item}
+use Rattle.atspi_protocol.specs.news.NewsOf.{news_of, or_empty}
 use Rattle.atspi_protocol.specs.news.Replies.{items_told}
 use Rattle.atspi_protocol.specs.declared.following.question.Question.TheVariants.{GetItems}
 use Rattle.atspi_protocol.specs.following.ReaderState.{Followed, ReaderState}
+use Rattle.atspi_protocol.specs.following.Known.{takes_child, takes_end}
 use Rattle.atspi_protocol.specs.following.Replied.{takes_reply, loaded, refused_part, with_items}
-use Rattle.atspi_protocol.specs.following.Takes.{notes, reader_takes, found_in}
+use Rattle.atspi_protocol.specs.following.Takes.{notes, folded, reader_takes, found_in}
 use Rattle.atspi_reader_laws.specs.Laws.{IsReplyTo, BeginsAnew, is_known, Forgets}
 use Rattle.atspi_reader_laws.proofs.Found.{changed_it, without_it}
 use Rattle.atspi_reader_laws.proofs.Ways.{free, taken, apps_stay}
-use Rattle.atspi_reader_laws.proofs.Tests.{IsTest, true_or_false, noting, gone_at_end}
+use Rattle.atspi_reader_laws.proofs.Tests.{IsLostAt, IsTest, true_or_false, noting, gone_at_end}
 use Rattle.atspi_reader_laws.proofs.Replies.{passes_on, after_reply}
 
 abbrev pub is_there : Option Followed → Bool
@@ -23,7 +25,7 @@ made_there change None = refl
 made_there change (Some app) = refl
 
 pub there_test : IsTest is_there
-there_test = record { none = refl; mild = λ change mild o. made_there change o }
+there_test = record { none = refl; mild = λ change mild o. made_there change o; heard = λ news o h. sym (made_there (folded news) o) ∙ h }
 
 -- a reply with items forgets nobody
 items_keep : (s : ReaderState) (name : List ℕ) (items : List Item) → is_known s name ≡ true → is_known (with_items s name (Some items)) name ≡ true
@@ -43,9 +45,13 @@ forgotten_only s e name known lost =
         ∙ items_keep now name items (noting is_there there_test name s e ∙ known) in
         absurd (true_or_false (is_known (reader_takes s e) name) still lost)
 
-    by : BeginsAnew s e name → Forgets s e name
-    by (inl ended) = inl ended
-    by (inr r) = told r (items_told e) refl
+    by : BeginsAnew s e name ⊎ IsLostAt is_there there_test name (takes_child (takes_end (notes s e) e) e) e → Forgets s e name
+    by (inl (inl ended)) = inl ended
+    by (inl (inr r)) = told r (items_told e) refl
+    by (inr news) =
+        let found = found_in name (takes_child (takes_end (notes s e) e) e).apps in
+        absurd (true_or_false (is_there (option_map (folded (news_of (or_empty e.sender) e)) found))
+        (made_there (folded (news_of (or_empty e.sender) e)) found ∙ news.1) news.2)
 
 pub forgotten_each : (s : ReaderState) (e : Envelope) (name : List ℕ) → Forgets s e name → is_known (reader_takes s e) name ≡ false
 forgotten_each s e name (inl ended) =

@@ -5,10 +5,9 @@ use Rattle.std.specs.List.{fold, list_any}
 use Rattle.std.specs.Option.{option_map}
 use Rattle.std.proofs.lemmas.Slice.Eq.{bytes_eq-Decides}
 use Rattle.atspi_tree_model.specs.declared.news.Reference.{Reference}
-use Rattle.atspi_base.specs.valid_names.Names.{is_bus_name}
 use Rattle.atspi_protocol.specs.following.ReaderState.{Followed, is_named}
 use Rattle.atspi_protocol.specs.following.Replied.{changed}
-use Rattle.atspi_protocol.specs.following.Known.{unasked, made_known}
+use Rattle.atspi_protocol.specs.following.Known.{is_connection, unasked, made_known}
 use Rattle.atspi_protocol.specs.following.Takes.{found_in}
 
 -- the others of a name that is another's
@@ -108,7 +107,7 @@ abbrev pub IsAsBefore : Option Followed → Option Followed → Type 0
 IsAsBefore old now = (now ≡ old) ⊎ ((old ≡ None) × (root : Reference) × (now ≡ Some (unasked root)))
 
 pub found_made : (name : List ℕ) (apps : List Followed) (root : Reference) → IsAsBefore (found_in name apps) (found_in name (made_known apps root))
-found_made name apps root = by (is_bus_name root.bus && not (list_any (is_named root.bus) apps)) (found_in name apps) refl
+found_made name apps root = by (is_connection root.bus && not (list_any (is_named root.bus) apps)) (found_in name apps) refl
   where
     at_end : (b : Bool) → found_in name apps ≡ None → found_in name (apps ++ unasked root ∷ []) ≡ (if b then Some (unasked root) else None)
         → IsAsBefore (found_in name apps) (found_in name (apps ++ unasked root ∷ []))

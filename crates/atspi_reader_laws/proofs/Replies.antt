@@ -14,13 +14,13 @@ use Rattle.atspi_protocol.specs.news.Replies.{elements_of, items_told, part_told
 use Rattle.atspi_protocol.specs.declared.following.question.Question.{Question}
 use Rattle.atspi_protocol.specs.declared.following.question.Question.TheVariants.{Hello, AddMatch, RegisterEvent, GetChildren, GetItems, GetPart}
 use Rattle.atspi_protocol.specs.following.ReaderState.{Followed, ReaderState}
-use Rattle.atspi_protocol.specs.following.Known.{made_known, references_among}
+use Rattle.atspi_protocol.specs.following.Known.{made_known, references_among, takes_child, told_end, takes_end}
 use Rattle.atspi_protocol.specs.following.Replied.{loaded, with_items, told_part, refused_part, with_part, goes_on_if, is_unique_name_alone, children_signature, replied, takes_reply}
 use Rattle.atspi_protocol.specs.following.Takes.{notes, reader_takes, found_in}
 use Rattle.atspi_reader_laws.specs.Laws.{IsReplyTo, BeginsAnew}
 use Rattle.atspi_reader_laws.proofs.Found.{found_changed, found_without, found_all_made}
 use Rattle.atspi_reader_laws.proofs.Ways.{free, taken, by_reply, reply_is, reply_is_no_signal, apps_stay}
-use Rattle.atspi_reader_laws.proofs.Tests.{IsMild, IsTest, noting, stays, lost_at_end, no_signal_stays}
+use Rattle.atspi_reader_laws.proofs.Tests.{IsLostAt, IsMild, IsTest, true_or_false, noting, stays, lost_at, no_signal_stays}
 
 pub told_mild : (news : News) → IsMild (told_part news)
 told_mild news = record { name = λ app. named app app.view refl; refused = λ app. refuses app app.view refl }
@@ -80,19 +80,29 @@ module _ (test : Option Followed → Bool) (is : IsTest test) (more : (path : Li
   reply_stays (GetItems n) s e passed = items_stay s n (items_told e) passed
   reply_stays (GetPart n path part) s e passed = inl (part_stays s n path part (part_told part path e) passed)
 
-  -- who passed before a message does after it, or the message ends the name or is the reply to the call for all of the application
-  pub passes_on : (s : ReaderState) (e : Envelope) → test (found_in name s.apps) ≡ true → test (found_in name (reader_takes s e).apps) ≡ false → BeginsAnew s e name
-  passes_on s e passed lost = by_reply (λ (now : ReaderState). test (found_in name (taken now e).apps) ≡ false → BeginsAnew s e name) (notes s e) e
-      (λ gone. inl (lost_at_end test is name (notes s e) e noted gone))
-      (λ question r gone. answered question r gone (reply_stays question (free (notes s e)) e noted))
+  -- Who passed before a message does after it; or the message ends the name or is the reply to the call for all of the application, or it is lost at news
+  -- of its own.
+  pub passes_on : (s : ReaderState) (e : Envelope) → test (found_in name s.apps) ≡ true → test (found_in name (reader_takes s e).apps) ≡ false
+      → BeginsAnew s e name ⊎ IsLostAt test is name (takes_child (takes_end (notes s e) e) e) e
+  passes_on s e passed lost = by_reply (λ (now : ReaderState). test (found_in name (taken now e).apps) ≡ false → BeginsAnew s e name ⊎ IsLostAt test is name (takes_child (takes_end (notes s e) e) e) e) (notes s e) e
+      (λ gone. unanswered (lost_at test is name (notes s e) e noted gone))
+      (λ question r gone. inl (answered question r gone (reply_stays question (free (notes s e)) e noted)))
       (ap (λ (apps : List Followed). test (found_in name apps)) (sym (apps_stay (taken (takes_reply (notes s e) e) e))) ∙ lost)
     where
       noted : test (found_in name (notes s e).apps) ≡ true
       noted = noting test is name s e ∙ passed
 
+      unanswered : (told_end e ≡ Some name) ⊎ IsLostAt test is name (takes_child (takes_end (notes s e) e) e) e
+          → BeginsAnew s e name ⊎ IsLostAt test is name (takes_child (takes_end (notes s e) e) e) e
+      unanswered (inl ended) = inl (inl ended)
+      unanswered (inr news) = inr news
+
       answered : (question : Question) → IsReplyTo question (notes s e) e → test (found_in name (taken (replied question (free (notes s e)) e) e).apps) ≡ false
           → Stays (notes s e) question (replied question (free (notes s e)) e).apps → BeginsAnew s e name
-      answered question r gone (inl still) = inl (lost_at_end test is name (replied question (free (notes s e)) e) e still gone)
+      answered question r gone (inl still) =
+          let other = reply_is_no_signal question (notes s e) e r in
+          absurd (true_or_false (test (found_in name (replied question (free (notes s e)) e).apps)) still
+          (sym (no_signal_stays test is name (replied question (free (notes s e)) e) e other) ∙ gone))
       answered question r gone (inr asked) = inr (subst (λ (q : Question). IsReplyTo q s e) asked (unnoted question s e r))
 
 -- what a test says after a reply, which tells of no end and of no child

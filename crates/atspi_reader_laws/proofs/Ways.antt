@@ -4,9 +4,10 @@ use Rattle.std.specs.Prelude.{◌==◌, ◌||◌, ◌&&◌, ◌⊎◌, bytes_eq,
 use Rattle.std.proofs.lemmas.Bool.{eqb-true, and_parts, or_cases}
 use Rattle.std.proofs.lemmas.Slice.Eq.{bytes_eq-Decides}
 use Rattle.atspi_message.specs.Envelope.{Envelope}
+use Rattle.atspi_tree_model.specs.declared.news.News.TheVariants.{Nothing}
 use Rattle.atspi_protocol.specs.ends.Places.{bus}
 use Rattle.atspi_protocol.specs.news.Arguments.{event_in}
-use Rattle.atspi_protocol.specs.news.NewsOf.{event_interface, or_empty}
+use Rattle.atspi_protocol.specs.news.NewsOf.{event_interface, news_of, or_empty}
 use Rattle.atspi_protocol.specs.declared.following.question.Question.{Question}
 use Rattle.atspi_protocol.specs.following.ReaderState.{Pending, ReaderState}
 use Rattle.atspi_protocol.specs.following.Wishes.{wishes}
@@ -52,6 +53,9 @@ reply_is_no_signal question s e r =
 
 pub no_end : (e : Envelope) → (e.kind == 4) ≡ false → told_end e ≡ None
 no_end e h = rw h refl
+
+pub no_news : (name : List ℕ) (e : Envelope) → (e.kind == 4) ≡ false → news_of name e ≡ Nothing
+no_news name e h = rw h refl
 
 pub no_child : (s : ReaderState) (e : Envelope) → (e.kind == 4) ≡ false → new_child s e ≡ None
 no_child s e h = rw h refl

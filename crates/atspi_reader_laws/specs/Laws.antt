@@ -4,8 +4,14 @@ use Rattle.std.specs.Prelude.{◌≡◌, ◌⊎◌, ◌==◌, ◌||◌, ℕ, Boo
 use Rattle.std.specs.Prelude.{is_some, bytes_eq}
 use Rattle.std.specs.List.{list_all}
 use Rattle.atspi_message.specs.Envelope.{Envelope}
+use Rattle.atspi_tree_model.specs.declared.view.Row.{Row}
+use Rattle.atspi_tree_model.specs.declared.news.Item.{Item}
+use Rattle.atspi_tree_model.specs.declared.news.News.TheVariants.{Item as NewItem}
+use Rattle.atspi_tree_model.specs.Forest.{Forest, has}
+use Rattle.atspi_tree_model.specs.News.{is_path}
 use Rattle.atspi_protocol.specs.declared.news.part.PartName.{PartName}
 use Rattle.atspi_protocol.specs.news.Arguments.{signature_of}
+use Rattle.atspi_protocol.specs.news.NewsOf.{news_of, or_empty}
 use Rattle.atspi_protocol.specs.news.Replies.{items_told, part_told}
 use Rattle.atspi_protocol.specs.declared.following.question.Question.{Question}
 use Rattle.atspi_protocol.specs.declared.following.question.Question.TheVariants.{Hello, AddMatch, RegisterEvent}
@@ -44,6 +50,24 @@ GivesUp s e name path part = IsReplyTo (GetPart name path part) s e × (part_tol
 -- whatever that is.
 abbrev pub BeginsAnew : ReaderState → Envelope → List ℕ → Type 0
 BeginsAnew s e name = (told_end e ≡ Some name) ⊎ IsReplyTo (GetItems name) s e
+
+-- whether an application that was found is held and has no row of a path
+abbrev pub lacks : Option (Forest Row) → List ℕ → Bool
+lacks None path = false
+lacks (Some view) path = not (has (is_path path) view)
+
+abbrev pub lacks_row : Option Followed → List ℕ → Bool
+lacks_row None path = false
+lacks_row (Some app) path = lacks app.view path
+
+-- WHAT MAKES THE PARTS OF ONE ROW ASKED FOR AGAIN: an item of the application's for a path of which it has no row, so
+-- that what was refused of the path was refused of a row that is gone.
+pub record ComesAnew (s : ReaderState) (e : Envelope) (name path : List ℕ) : Type 0 where
+  pub sender : or_empty e.sender ≡ name
+  pub item : Item
+  pub told : news_of name e ≡ NewItem item
+  pub of_path : item.object.path ≡ path
+  pub no_row : lacks_row (found_in name s.apps) path ≡ true
 
 -- whether an application with this name is known
 abbrev pub is_known : ReaderState → List ℕ → Bool

@@ -9,9 +9,10 @@ ghost use Rattle.atspi_protocol.specs.declared.following.question.Question.TheVa
 ghost use Rattle.atspi_protocol.specs.following.ReaderState.{begins};
 ghost use Rattle.atspi_protocol.specs.following.Takes.{starts, reader_takes};
 ghost use Rattle.atspi_protocol.specs.following.Cases.{known, held, window, waiting, returned, failed, owner_changed};
-ghost use Rattle.atspi_protocol.specs.following.Cases.{items};
+ghost use Rattle.atspi_protocol.specs.following.Cases.{item, items, signal};
 ghost use Rattle.atspi_reader_laws.specs.Laws.{IsReplyTo, RestsOnlyAtEnd, refused_of, is_given_up, GivesUp, BeginsAnew};
-ghost use Rattle.atspi_reader_laws.specs.Laws.{is_known, Forgets, is_of_start, fails_start, EndsStart, waits_for_start};
+ghost use Rattle.atspi_reader_laws.specs.Laws.{ComesAnew, lacks_row, is_known, Forgets, is_of_start, fails_start};
+ghost use Rattle.atspi_reader_laws.specs.Laws.{EndsStart, waits_for_start};
 ghost use Rattle.atspi_reader_laws.specs.Laws.{IsStartOver, IsOfStart, AsksInOrder};
 
 /// A message is the reply to the call that waits by its serial and its sender; where no call waits it is to none.
@@ -68,6 +69,24 @@ pub fn what_gives_up()
     ensures loaded { BeginsAnew (waiting (GetItems (codes ":1.7")) []) (returned 20 (codes ":1.7") (items []))
         (codes ":1.7") }
     ensures neither { BeginsAnew (waiting Hello []) (failed 20 (codes ":1.7")) (codes ":1.7") → ⊥ }
+{}
+
+/// An item comes anew for a path of which the application, where it is held, has no row; not one of another application,
+/// and not for a row that is there.
+pub fn what_comes_anew()
+    ensures there { lacks_row (Some (held (codes ":1.7") window)) (codes "/a") ≡ false }
+    ensures not_there { lacks_row (Some (held (codes ":1.7") window)) (codes "/b") ≡ true }
+    ensures not_held { lacks_row (Some (known (codes ":1.7"))) (codes "/b") ≡ false }
+    ensures nobody { lacks_row None (codes "/b") ≡ false }
+    ensures anew { ComesAnew (waiting Hello (held (codes ":1.7") window ∷ []))
+        (signal (codes ":1.7") (codes "/c") (codes "org.a11y.atspi.Cache") (codes "AddAccessible")
+        (item (codes "/b") (codes "/a") (codes "N") ∷ [])) (codes ":1.7") (codes "/b") }
+    ensures known_row { ComesAnew (waiting Hello (held (codes ":1.7") window ∷ []))
+        (signal (codes ":1.7") (codes "/c") (codes "org.a11y.atspi.Cache") (codes "AddAccessible")
+        (item (codes "/a") (codes "/r") (codes "N") ∷ [])) (codes ":1.7") (codes "/a") → ⊥ }
+    ensures other_sender { ComesAnew (waiting Hello (held (codes ":1.7") window ∷ []))
+        (signal (codes ":1.8") (codes "/c") (codes "org.a11y.atspi.Cache") (codes "AddAccessible")
+        (item (codes "/b") (codes "/a") (codes "N") ∷ [])) (codes ":1.7") (codes "/b") → ⊥ }
 {}
 
 /// Forgotten is who ends, or tells no items.

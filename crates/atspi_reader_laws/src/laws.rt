@@ -6,7 +6,8 @@ ghost use Rattle.atspi_script_lines.specs.declared.deed.Deed.{Deed};
 ghost use Rattle.atspi_protocol.specs.declared.news.part.PartName.{PartName};
 ghost use Rattle.atspi_protocol.specs.following.ReaderState.{ReaderState, begins};
 ghost use Rattle.atspi_protocol.specs.following.Takes.{starts, reader_takes, reader_calls};
-ghost use Rattle.atspi_reader_laws.specs.Laws.{RestsOnlyAtEnd, is_given_up, GivesUp, BeginsAnew, is_known, Forgets};
+ghost use Rattle.atspi_reader_laws.specs.Laws.{RestsOnlyAtEnd, is_given_up, GivesUp, BeginsAnew, ComesAnew};
+ghost use Rattle.atspi_reader_laws.specs.Laws.{is_known, Forgets};
 ghost use Rattle.atspi_reader_laws.specs.Laws.{EndsStart, IsStartOver, IsOfStart, AsksInOrder};
 
 /// A reader asks on: where no call of its own waits, no call of its start is to come, and there is nothing that it
@@ -19,8 +20,8 @@ pub fn readers_ask_on()
 {}
 
 /// A part of a row is given up only where the reply to the call for it tells no such part, and then it is, of an
-/// application that is known. It is given up until the application ends or the call for all of it is answered, and not
-/// after.
+/// application that is known. It is given up until the application ends, the call for all of it is answered, or an item
+/// comes for its path, of which there is no row; and not after.
 pub fn parts_are_given_up()
     ensures only { (s : ReaderState) (e : Envelope) (name path : List ℕ) (part : PartName)
         → is_given_up s name path part ≡ false → is_given_up (reader_takes s e) name path part ≡ true
@@ -29,8 +30,10 @@ pub fn parts_are_given_up()
         → GivesUp s e name path part → is_given_up (reader_takes s e) name path part ≡ true }
     ensures stay { (s : ReaderState) (e : Envelope) (name path : List ℕ) (part : PartName)
         → is_given_up s name path part ≡ true → is_given_up (reader_takes s e) name path part ≡ false
-        → BeginsAnew s e name }
+        → BeginsAnew s e name ⊎ ComesAnew s e name path }
     ensures anew { (s : ReaderState) (e : Envelope) (name path : List ℕ) (part : PartName) → BeginsAnew s e name
+        → is_given_up (reader_takes s e) name path part ≡ false }
+    ensures row { (s : ReaderState) (e : Envelope) (name path : List ℕ) (part : PartName) → ComesAnew s e name path
         → is_given_up (reader_takes s e) name path part ≡ false }
 {}
 

@@ -4,7 +4,7 @@ use Rattle.std.specs.Prelude.{bytes_eq, filter, not, ◌&&◌, ◌||◌, ◌==�
 use Rattle.std.specs.List.{AllByRecursion, fold, list_any}
 use Rattle.std.proofs.lemmas.Bool.{and_parts}
 use Rattle.std.proofs.lemmas.List.{append-nil}
-use Rattle.atspi_base.specs.valid_names.Names.{is_bus_name}
+use Rattle.atspi_base.specs.valid_names.Names.{is_bus_name, is_unique_name}
 use Rattle.atspi_tree_model.specs.declared.news.Item.{Item}
 use Rattle.atspi_tree_model.specs.declared.news.News.{News}
 use Rattle.atspi_tree_model.specs.declared.news.Reference.{Reference}
@@ -17,7 +17,7 @@ use Rattle.atspi_protocol.specs.declared.following.question.Question.{Question}
 use Rattle.atspi_protocol.specs.declared.following.question.Question.TheVariants.{GetChildren}
 use Rattle.atspi_protocol.specs.news.Replies.{elements_of}
 use Rattle.atspi_protocol.specs.following.ReaderState.{Followed, ReaderState, is_named, start_calls}
-use Rattle.atspi_protocol.specs.following.Known.{references_among, made_known, unasked}
+use Rattle.atspi_protocol.specs.following.Known.{is_connection, references_among, made_known, unasked}
 use Rattle.atspi_protocol.specs.following.Replied.{is_reply_to, changed, loaded, told_part, refused_part, with_items, with_part}
 use Rattle.atspi_trace.specs.World.{waits, returned, failed, Asked, Holding, Hearer, World}
 use Rattle.atspi_trace.specs.Hearing.{fate_of, answered_by, question_returned, registry_after, names_told, is_answered}
@@ -225,10 +225,10 @@ module _ (w : World) (h : Hearer) (m : Envelope) (holds : List Holding) (to_come
         g : Hearer
         g = heard h m now (Some GetChildren) holds
 
-        new : AllByRecursion (λ (root : Reference). is_bus_name root.bus ≡ true → IsNamed g (unasked root)) roots
+        new : AllByRecursion (λ (root : Reference). is_connection root.bus ≡ true → IsNamed g (unasked root)) roots
         new =
-            all_weaker (λ (root : Reference). list_any (bytes_eq root.bus) (map (λ (z : Reference). z.bus) roots) ≡ true) (λ (root : Reference). is_bus_name root.bus ≡ true → IsNamed g (unasked root))
-            (λ root e is. record { bus_name = is; told = any_back (bytes_eq root.bus) h.named (map (λ (z : Reference). z.bus) roots) e }) roots (each_told roots)
+            all_weaker (λ (root : Reference). list_any (bytes_eq root.bus) (map (λ (z : Reference). z.bus) roots) ≡ true) (λ (root : Reference). is_connection root.bus ≡ true → IsNamed g (unasked root))
+            (λ root e is. record { bus_name = (and_parts (is_bus_name root.bus) (is_unique_name root.bus) is).0; told = any_back (bytes_eq root.bus) h.named (map (λ (z : Reference). z.bus) roots) e }) roots (each_told roots)
 
   -- the start is over where its last call is the one that waited
   pub over_at : question ≡ GetChildren → (to_come ≡ []) ⊎ (map question_of h.asked ++ to_come ≡ start_calls) → to_come ≡ []

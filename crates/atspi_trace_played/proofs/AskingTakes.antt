@@ -107,7 +107,7 @@ child_asks : (h : Hearer) (s : ReaderState) (o : Option Reference) → ((root : 
     → AsksWell h (silent s) → AsksWell h (silent (with_child s o))
 child_asks h s None told none a = a
 child_asks h s (Some root) told none a =
-    with_apps h s (made_known s.apps root) a (by a.started) (made_all (IsNamed h) s.apps root (λ e. record { bus_name = e; told = told root refl }) a.names) (made_distinct s.apps root a.distinct)
+    with_apps h s (made_known s.apps root) a (by a.started) (made_all (IsNamed h) s.apps root (λ e. record { bus_name = (and_parts (is_bus_name root.bus) (is_unique_name root.bus) e).0; told = told root refl }) a.names) (made_distinct s.apps root a.distinct)
   where
     by : KnowsNothing (silent s) ⊎ IsStarted (silent s) h → KnowsNothing (record s { apps = made_known s.apps root }) ⊎ IsStarted (record s { apps = made_known s.apps root }) h
     by (inl k) = absurd (no_none root (sym (none k.registry)))

@@ -4,10 +4,9 @@ use Rattle.std.specs.Prelude.{bytes_eq, filter, flat_map, not, ◌&&◌, ◌||�
 use Rattle.std.specs.List.{AllByRecursion, fold, list_all, list_any}
 use Rattle.std.proofs.lemmas.Bool.{and_parts}
 use Rattle.std.proofs.lemmas.Slice.Eq.{bytes_eq-Decides}
-use Rattle.atspi_base.specs.valid_names.Names.{is_bus_name}
 use Rattle.atspi_tree_model.specs.declared.news.Reference.{Reference}
 use Rattle.atspi_protocol.specs.following.ReaderState.{Followed, is_named}
-use Rattle.atspi_protocol.specs.following.Known.{unasked, made_known}
+use Rattle.atspi_protocol.specs.following.Known.{is_connection, unasked, made_known}
 use Rattle.atspi_protocol.specs.following.Replied.{changed}
 use Rattle.atspi_protocol.specs.following.Takes.{found_in}
 use Rattle.atspi_trace_laws.proofs.OfOrder.Parties.{false_true, all_append}
@@ -109,7 +108,7 @@ filter_distinct p (f ∷ fs) d = by (p f) (filter_distinct p fs d.1)
 
 -- ONE BECOMES KNOWN
 abbrev IsNew : List Followed → Reference → Bool
-IsNew apps root = is_bus_name root.bus && not (list_any (is_named root.bus) apps)
+IsNew apps root = is_connection root.bus && not (list_any (is_named root.bus) apps)
 
 not_true : (b : Bool) → not b ≡ true → b ≡ false
 not_true true h = absurd (false_true h)
@@ -123,11 +122,11 @@ none_named name (f ∷ fs) h = by (is_named name f) refl h (λ k. none_named nam
     by true g k rest = absurd (false_true (sym k))
     by false g k rest = (g, rest k)
 
-pub made_all : (P : Followed → Type 0) (apps : List Followed) (root : Reference) → (is_bus_name root.bus ≡ true → P (unasked root)) → AllByRecursion P apps → AllByRecursion P (made_known apps root)
+pub made_all : (P : Followed → Type 0) (apps : List Followed) (root : Reference) → (is_connection root.bus ≡ true → P (unasked root)) → AllByRecursion P apps → AllByRecursion P (made_known apps root)
 made_all P apps root new a = by (IsNew apps root) refl
   where
     by : (b : Bool) → IsNew apps root ≡ b → AllByRecursion P (if b then apps ++ unasked root ∷ [] else apps)
-    by true g = all_append P apps (unasked root ∷ []) a (new (and_parts (is_bus_name root.bus) (not (list_any (is_named root.bus) apps)) g).0, tt)
+    by true g = all_append P apps (unasked root ∷ []) a (new (and_parts (is_connection root.bus) (not (list_any (is_named root.bus) apps)) g).0, tt)
     by false g = a
 
 distinct_more : (apps : List Followed) (f : Followed) → AllByRecursion (Apart f.name) apps → AreDistinct apps → AreDistinct (apps ++ f ∷ [])
@@ -139,12 +138,12 @@ made_distinct apps root d = by (IsNew apps root) refl
   where
     by : (b : Bool) → IsNew apps root ≡ b → AreDistinct (if b then apps ++ unasked root ∷ [] else apps)
     by true g =
-        let new = not_true (list_any (is_named root.bus) apps) (and_parts (is_bus_name root.bus) (not (list_any (is_named root.bus) apps)) g).1 in
+        let new = not_true (list_any (is_named root.bus) apps) (and_parts (is_connection root.bus) (not (list_any (is_named root.bus) apps)) g).1 in
         distinct_more apps (unasked root) (none_named root.bus apps new) d
     by false g = d
 
 -- and several
-pub fold_all : (P : Followed → Type 0) (apps : List Followed) (roots : List Reference) → AllByRecursion (λ (root : Reference). is_bus_name root.bus ≡ true → P (unasked root)) roots → AllByRecursion P apps
+pub fold_all : (P : Followed → Type 0) (apps : List Followed) (roots : List Reference) → AllByRecursion (λ (root : Reference). is_connection root.bus ≡ true → P (unasked root)) roots → AllByRecursion P apps
     → AllByRecursion P (fold made_known apps roots)
 fold_all P apps [] new a = a
 fold_all P apps (root ∷ roots) new a = fold_all P (made_known apps root) roots new.1 (made_all P apps root new.0 a)

@@ -17,6 +17,7 @@ use Rattle.atspi_protocol.specs.ends.Places.{bus}
 use Rattle.atspi_protocol.specs.news.Arguments.{signature_of}
 use Rattle.atspi_protocol.specs.news.NewsOf.{or_empty}
 use Rattle.atspi_protocol.specs.news.Replies.{items_told}
+use Rattle.atspi_protocol.specs.following.Known.{is_connection}
 use Rattle.atspi_protocol.specs.following.ReaderState.{Followed, Pending, ReaderState, start_calls}
 use Rattle.atspi_protocol.specs.following.Replied.{is_reply_to, may_answer, is_unique_name_alone, children_signature}
 use Rattle.atspi_protocol.specs.following.Takes.{found_in}
@@ -176,7 +177,7 @@ PartWaits es r pending =
 
 pub record WantsWell (es : List Entry) (w : World) (r : ℕ) (h : Hearer) (s : ReaderState) : Type 0 where
   pub each : AllByRecursion (WantsOf es r h) s.apps
-  pub named : AllByRecursion (λ name. is_bus_name name ≡ true → IsKnownOrGone w s h name) h.named
+  pub named : AllByRecursion (λ name. is_connection name ≡ true → IsKnownOrGone w s h name) h.named
   pub asking : PartWaits es r s.pending
   -- where no call is in flight, nothing is left to be asked
   pub idle : s.pending ≡ None → (s.to_come ≡ []) × (wishes s.apps ≡ [])

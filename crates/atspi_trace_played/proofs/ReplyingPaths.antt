@@ -11,8 +11,10 @@ use Rattle.atspi_protocol.specs.ends.Places.{reference, registry_root}
 use Rattle.atspi_protocol.specs.ends.Messages.{Reply, returns, fails, reply_to, replies, expects_reply, numbered}
 use Rattle.atspi_protocol.specs.declared.members.member.ObjectMember.{ObjectMember}
 use Rattle.atspi_protocol.specs.declared.members.member.ObjectMember.TheVariants as members
-use Rattle.atspi_protocol.specs.members.Asked.{Asked, calls, gets, gets_all, sets, and_then, member_of, properties_of, property_of, set_to, asked_by, asked}
-use Rattle.atspi_protocol.specs.members.Arguments.{text_at, value_at, signed_at}
+use Rattle.atspi_protocol.specs.members.Asked.{Asked, calls, gets, gets_all, sets, and_then, member_of, pieces_asked, properties_of, property_of, set_to, asked_by, asked}
+use Rattle.atspi_protocol.specs.members.Granularity.{grain_of}
+use Rattle.atspi_units.specs.declared.grain.Grain.{Grain}
+use Rattle.atspi_protocol.specs.members.Arguments.{text_at, unsigned_at, value_at, signed_at}
 use Rattle.atspi_protocol.specs.members.Table.{PropertyLine}
 use Rattle.atspi_protocol.specs.members.Objects.{Object}
 use Rattle.atspi_protocol.specs.news.Arguments.{event_in, reference_in as reference_told}
@@ -78,10 +80,15 @@ sets_args : (body : List Data) (value : Option Data) (r : Result PropertyLine (L
 sets_args body value (Ok l) = set_args body value l
 sets_args body value (Err word) = tt
 
+pieces_args : (body : List Data) (grain : Option Grain) → ArgsAre body (pieces_asked body grain)
+pieces_args body None = tt
+pieces_args body (Some grain) = refl
+
 by_args : (o : Object) (body : List Data) (member : ObjectMember) → ArgsAre body (asked_by o body member)
 by_args o body members.Get = gets_args body (property_of o (text_at 0 body) (text_at 1 body))
 by_args o body members.GetAll = all_args body (properties_of o (text_at 0 body))
 by_args o body members.Set = sets_args body (value_at 2 body) (property_of o (text_at 0 body) (text_at 1 body))
+by_args o body members.GetStringAtOffset = pieces_args body (grain_of (unsigned_at 1 body))
 by_args o body other = refl
 
 args_are : (o : Option Object) (interface text : Option (List ℕ)) (body : List Data) → ArgsAre body (asked o interface text body)

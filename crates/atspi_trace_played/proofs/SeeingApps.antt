@@ -3,10 +3,9 @@ use Rattle.std.proofs.Common.{◌≡◌, ◌⊎◌, inl, inr, ℕ, Bool, true, f
 use Rattle.std.specs.Prelude.{◌&&◌, ◌||◌, not, bytes_eq, filter, option_map, if◌then◌else◌}
 use Rattle.std.specs.List.{AllByRecursion, list_any, fold}
 use Rattle.std.proofs.lemmas.Slice.Eq.{bytes_eq-Decides}
-use Rattle.atspi_base.specs.valid_names.Names.{is_bus_name}
 use Rattle.atspi_tree_model.specs.declared.news.Reference.{Reference}
 use Rattle.atspi_protocol.specs.following.ReaderState.{Followed, is_named}
-use Rattle.atspi_protocol.specs.following.Known.{unasked, made_known}
+use Rattle.atspi_protocol.specs.following.Known.{is_connection, unasked, made_known}
 use Rattle.atspi_protocol.specs.following.Replied.{changed}
 use Rattle.atspi_protocol.specs.following.Takes.{found_in}
 use Rattle.atspi_trace_laws.proofs.OfOrder.Parties.{no_none, same_some, false_true, all_append}
@@ -91,7 +90,7 @@ found_last x (f ∷ fs) g = by (bytes_eq f.name x) refl (found_last x fs g)
     by false h (inr p) = inr (ap (λ t. if t then Some f else found_in x fs) h ∙ p.0, ap (λ t. if t then Some f else found_in x (fs ++ g ∷ [])) h ∙ p.1)
 
 pub found_made : (x : List ℕ) (apps : List Followed) (root : Reference) → FoundAfter x apps (made_known apps root)
-found_made x apps root = by (is_bus_name root.bus && not (list_any (is_named root.bus) apps)) (found_last x apps (unasked root))
+found_made x apps root = by (is_connection root.bus && not (list_any (is_named root.bus) apps)) (found_last x apps (unasked root))
   where
     by : (t : Bool) → FoundAfter x apps (apps ++ unasked root ∷ []) ⊎ ((found_in x apps ≡ None) × (found_in x (apps ++ unasked root ∷ []) ≡ Some (unasked root)))
         → FoundAfter x apps (if t then apps ++ unasked root ∷ [] else apps)
@@ -135,7 +134,7 @@ each_kept P p (g ∷ gs) a = by (p g) (each_kept P p gs a.1)
     by false r = r
 
 pub each_made : (P : Followed → Type 0) (apps : List Followed) (root : Reference) → P (unasked root) → AllByRecursion P apps → AllByRecursion P (made_known apps root)
-each_made P apps root p a = by (is_bus_name root.bus && not (list_any (is_named root.bus) apps))
+each_made P apps root p a = by (is_connection root.bus && not (list_any (is_named root.bus) apps))
   where
     by : (t : Bool) → AllByRecursion P (if t then apps ++ unasked root ∷ [] else apps)
     by true = all_append P apps (unasked root ∷ []) a (p, tt)
@@ -204,7 +203,7 @@ distinct_last (f ∷ fs) g d none = by (bytes_eq f.name g.name) refl none (λ n.
     by false h n ih = (all_append (λ (z : Followed). bytes_eq z.name f.name ≡ false) fs (g ∷ []) d.0 (turned h, tt), ih n)
 
 pub distinct_made : (apps : List Followed) (root : Reference) → AreDistinct apps → AreDistinct (made_known apps root)
-distinct_made apps root d = by (is_bus_name root.bus) (list_any (is_named root.bus) apps) refl
+distinct_made apps root d = by (is_connection root.bus) (list_any (is_named root.bus) apps) refl
   where
     by : (b c : Bool) → list_any (is_named root.bus) apps ≡ c → AreDistinct (if b && not c then apps ++ unasked root ∷ [] else apps)
     by true true h = d

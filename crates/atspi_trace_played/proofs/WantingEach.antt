@@ -1,13 +1,15 @@
 -- What it wants of each application that it knows, behind a letter that it took.
-use Rattle.std.proofs.Common.{◌≡◌, ◌⊎◌, inl, inr, ℕ, Bool, true, false, List, [], ◌∷◌, ◌++◌, Option, None, Some, refl, sym, ap, ◌∙◌, subst}
+use Rattle.std.proofs.Common.{◌≡◌, ◌⊎◌, inl, inr, ℕ, Bool, true, false, cond, List, [], ◌∷◌, ◌++◌, Option, None, Some, refl, sym, ap, ◌∙◌, subst}
 use Rattle.std.specs.Prelude.{◌==◌, ◌&&◌, not, filter, fold, bytes_eq, if◌then◌else◌}
 use Rattle.std.specs.List.{AllByRecursion}
 use Rattle.std.proofs.lemmas.Slice.Eq.{bytes_eq-Decides}
 use Rattle.atspi_tree_model.specs.declared.news.Item.{Item}
 use Rattle.atspi_tree_model.specs.declared.news.News.{News}
+use Rattle.atspi_tree_model.specs.declared.news.News.TheVariants.{Removed, ChildAdded, ChildRemoved, Name, Description, Role, State, Inserted, Deleted, Caret, TextIs, CaretIs, ColumnsIs, Nothing, Item as NewItem}
 use Rattle.atspi_tree_model.specs.declared.news.Reference.{Reference}
 use Rattle.atspi_tree_model.specs.declared.view.Row.{Row}
-use Rattle.atspi_tree_model.specs.Forest.{Forest}
+use Rattle.atspi_tree_model.specs.Forest.{Forest, has}
+use Rattle.atspi_tree_model.specs.News.{is_path}
 use Rattle.atspi_script_lines.specs.declared.line.Line.{Line}
 use Rattle.atspi_script_lines.specs.declared.line.Party.TheVariants.{App}
 use Rattle.atspi_message.specs.Envelope.{Envelope}
@@ -20,8 +22,8 @@ use Rattle.atspi_protocol.specs.news.Replies.{elements_of, items_told, part_told
 use Rattle.atspi_protocol.specs.following.ReaderState.{Followed, Pending, ReaderState, is_named}
 use Rattle.atspi_protocol.specs.following.Known.{unasked, made_known, references_among, new_child, with_child, takes_child, told_end, with_end, takes_end}
 use Rattle.atspi_protocol.specs.following.Replied.{changed, loaded, told_part, refused_part, goes_on_if, is_unique_name_alone, children_signature, with_items, with_part, replied, takes_reply}
-use Rattle.atspi_protocol.specs.following.Takes.{noted, notes, folded, takes_news, asks_first, goes_on, reader_takes}
-use Rattle.atspi_protocol.specs.following.Wishes.{wishes}
+use Rattle.atspi_protocol.specs.following.Takes.{noted, notes, folded, still_refused, takes_news, asks_first, goes_on, reader_takes}
+use Rattle.atspi_protocol.specs.following.Wishes.{of_others, wishes}
 use Rattle.atspi_trace.specs.Entry.{Entry}
 use Rattle.atspi_trace.specs.World.{Hearer, Letter, End, World}
 use Rattle.atspi_trace.specs.Ends.{number_of}
@@ -64,6 +66,36 @@ split_kept P Q n (g ∷ gs) other a = by (bytes_eq g.name n) refl (split_kept P 
 each_root : (P : Followed → Type 0) (roots : List Reference) → ((root : Reference) → P (unasked root)) → AllByRecursion (λ root. P (unasked root)) roots
 each_root P [] f = tt
 each_root P (root ∷ roots) f = (f root, each_root P roots f)
+
+-- what stays refused at news was refused
+all_others : (P : List ℕ × PartName → Type 0) (path : List ℕ) (refused : List (List ℕ × PartName)) → AllByRecursion P refused → AllByRecursion P (of_others path refused)
+all_others P path [] a = tt
+all_others P path (part ∷ refused) a = by (bytes_eq part.0 path) (all_others P path refused a.1)
+  where
+    by : (b : Bool) → AllByRecursion P (of_others path refused) → AllByRecursion P (cond (not b) (part ∷ of_others path refused) (of_others path refused))
+    by true rest = rest
+    by false rest = (a.0, rest)
+
+all_still : (P : List ℕ × PartName → Type 0) (v : Forest Row) (news : News) (refused : List (List ℕ × PartName)) → AllByRecursion P refused → AllByRecursion P (still_refused v news refused)
+all_still P v (NewItem item) refused a = by (has (is_path item.object.path) v)
+  where
+    by : (b : Bool) → AllByRecursion P (if b then refused else of_others item.object.path refused)
+    by true = a
+    by false = all_others P item.object.path refused a
+all_still P v (Removed path) refused a = a
+all_still P v (ChildAdded child) refused a = a
+all_still P v (ChildRemoved p i child) refused a = a
+all_still P v (Name p x) refused a = a
+all_still P v (Description p x) refused a = a
+all_still P v (Role p x) refused a = a
+all_still P v (State p s on) refused a = a
+all_still P v (Inserted p at x) refused a = a
+all_still P v (Deleted p at n x) refused a = a
+all_still P v (Caret p at) refused a = a
+all_still P v (TextIs p x) refused a = a
+all_still P v (CaretIs p at) refused a = a
+all_still P v (ColumnsIs p n) refused a = a
+all_still P v Nothing refused a = a
 
 -- what goes on changes no application
 pub goes_apps : (x : ReaderState) → (goes_on x).apps ≡ x.apps
@@ -139,7 +171,10 @@ module _ (script : List Line) (es : List Entry) (w : World) (g : Ground script e
     where
       by : (o : Option (Forest Row)) → f.view ≡ o → Behind (folded news (record f { view = o }))
       by None is = record { parts = i.parts; held = λ v h. absurd (no_none v h) }
-      by (Some v) is = record { parts = i.parts; held = λ u h. i.held v is }
+      by (Some v) is = record {
+        parts = λ a named. all_still (λ (y : List ℕ × PartName). IsPartAsked (es ++ ys) r a f.name y.0 y.1) v news f.refused (i.parts a named);
+        held = λ u h. i.held v is;
+      }
 
   -- ITS REPLY
   abbrev t0 : ReaderState

@@ -2,7 +2,6 @@
 use Rattle.std.proofs.Common.{◌≡◌, ◌⊎◌, inl, inr, ℕ, Bool, true, false, List, [], ◌∷◌, ◌++◌, map, Option, None, Some, refl, sym, ap, ◌∙◌, subst}
 use Rattle.std.specs.Prelude.{◌==◌, ◌&&◌, ◌||◌, not, filter, fold, bytes_eq, option_map, if◌then◌else◌}
 use Rattle.std.specs.List.{AllByRecursion, list_any}
-use Rattle.atspi_base.specs.valid_names.Names.{is_bus_name}
 use Rattle.atspi_tree_model.specs.declared.news.Reference.{Reference}
 use Rattle.atspi_script_lines.specs.declared.line.Line.{Line}
 use Rattle.atspi_message.specs.Envelope.{Envelope}
@@ -11,7 +10,7 @@ use Rattle.atspi_protocol.specs.declared.following.question.Question.TheVariants
 use Rattle.atspi_protocol.specs.news.NewsOf.{news_of, or_empty}
 use Rattle.atspi_protocol.specs.news.Replies.{elements_of}
 use Rattle.atspi_protocol.specs.following.ReaderState.{Followed, Pending, ReaderState, is_named, begins}
-use Rattle.atspi_protocol.specs.following.Known.{unasked, made_known, references_among, new_child, with_child, takes_child, told_end, with_end, takes_end}
+use Rattle.atspi_protocol.specs.following.Known.{is_connection, unasked, made_known, references_among, new_child, with_child, takes_child, told_end, with_end, takes_end}
 use Rattle.atspi_protocol.specs.following.Replied.{changed, loaded, told_part, refused_part, takes_reply}
 use Rattle.atspi_protocol.specs.following.Takes.{noted, notes, folded, takes_news, found_in, reader_takes}
 use Rattle.atspi_trace.specs.Entry.{Entry}
@@ -67,8 +66,8 @@ found_end name (f ∷ fs) g is = by (is_named name f) refl (found_end name fs g 
     by true named x = (f, ap (λ b. if b then Some f else found_in name (fs ++ g ∷ [])) named)
     by false named x = (x.0, ap (λ b. if b then Some f else found_in name (fs ++ g ∷ [])) named ∙ x.1)
 
-made_found : (l : List Followed) (root : Reference) → is_bus_name root.bus ≡ true → IsFound root.bus (made_known l root)
-made_found l root is = by (is_bus_name root.bus) is (list_any (is_named root.bus) l) refl
+made_found : (l : List Followed) (root : Reference) → is_connection root.bus ≡ true → IsFound root.bus (made_known l root)
+made_found l root is = by (is_connection root.bus) is (list_any (is_named root.bus) l) refl
   where
     by : (b : Bool) → b ≡ true → (c : Bool) → list_any (is_named root.bus) l ≡ c → IsFound root.bus (if b && not c then l ++ unasked root ∷ [] else l)
     by true h true any = found_any root.bus l any
@@ -108,7 +107,7 @@ module _ (script : List Line) (es : List Entry) (w : World) (g : Ground script e
   known_fold name l [] i = i
   known_fold name l (root ∷ roots) i = known_fold name (made_known l root) roots (known_made name l root i)
 
-  fold_known : (l : List Followed) (roots : List Reference) → AllByRecursion (λ name. is_bus_name name ≡ true → Known name (fold made_known l roots)) (map (λ (root : Reference). root.bus) roots)
+  fold_known : (l : List Followed) (roots : List Reference) → AllByRecursion (λ name. is_connection name ≡ true → Known name (fold made_known l roots)) (map (λ (root : Reference). root.bus) roots)
   fold_known l [] = tt
   fold_known l (root ∷ roots) = ((λ is. known_fold root.bus (made_known l root) roots (inl (made_found l root is))), fold_known (made_known l root) roots)
 
@@ -171,8 +170,8 @@ module _ (script : List Line) (es : List Entry) (w : World) (g : Ground script e
       let a = embedded_app es w (shape script es w None g) (known script es w None g) name was in
       gone_more script script es (entries_behind w conn) w (world_behind w conn) None (Some conn) g behind name a.0 a.1 gone
 
-  old : (names : List (List ℕ)) → AllByRecursion (Embedded es) names → AllByRecursion (λ name. is_bus_name name ≡ true → IsKnownOrGone w s h name) names
-      → AllByRecursion (λ name. is_bus_name name ≡ true → Known name (reader_takes s m).apps) names
+  old : (names : List (List ℕ)) → AllByRecursion (Embedded es) names → AllByRecursion (λ name. is_connection name ≡ true → IsKnownOrGone w s h name) names
+      → AllByRecursion (λ name. is_connection name ≡ true → Known name (reader_takes s m).apps) names
   old [] a b = tt
   old (name ∷ names) a b = ((λ is. known_through name (goes name a.0) (known_replied name (by (b.0 is)))), old names a.1 b.1)
     where
@@ -192,17 +191,17 @@ module _ (script : List Line) (es : List Entry) (w : World) (g : Ground script e
   ended_registry None = refl
   ended_registry (Some n) = refl
 
-  child_known : (o : Option Reference) → AllByRecursion (λ name. is_bus_name name ≡ true → Known name (with_child ended_state o).apps) (child_name o)
+  child_known : (o : Option Reference) → AllByRecursion (λ name. is_connection name ≡ true → Known name (with_child ended_state o).apps) (child_name o)
   child_known None = tt
   child_known (Some root) = ((λ is. inl (made_found ended_state.apps root is)), tt)
 
-  later : (names : List (List ℕ)) → AllByRecursion (λ name. is_bus_name name ≡ true → Known name child_state.apps) names → AllByRecursion (λ name. is_bus_name name ≡ true → Known name (reader_takes s m).apps) names
+  later : (names : List (List ℕ)) → AllByRecursion (λ name. is_connection name ≡ true → Known name child_state.apps) names → AllByRecursion (λ name. is_connection name ≡ true → Known name (reader_takes s m).apps) names
   later [] a = tt
   later (name ∷ names) a = ((λ is. known_last name (a.0 is)), later names a.1)
 
-  new_child_known : replied_state.registry ≡ s.registry → AllByRecursion (λ name. is_bus_name name ≡ true → Known name (reader_takes s m).apps) (child_name (new_child (record begins { registry = h.registry }) m))
+  new_child_known : replied_state.registry ≡ s.registry → AllByRecursion (λ name. is_connection name ≡ true → Known name (reader_takes s m).apps) (child_name (new_child (record begins { registry = h.registry }) m))
   new_child_known is =
-      subst (λ o. AllByRecursion (λ name. is_bus_name name ≡ true → Known name (reader_takes s m).apps) (child_name o))
+      subst (λ o. AllByRecursion (λ name. is_connection name ≡ true → Known name (reader_takes s m).apps) (child_name o))
       (child_same ended_state (record begins { registry = h.registry }) (ended_registry (told_end m) ∙ is ∙ t.asks.registry))
       (later (child_name (new_child ended_state m)) (child_known (new_child ended_state m)))
 
@@ -220,14 +219,14 @@ module _ (script : List Line) (es : List Entry) (w : World) (g : Ground script e
   is_children q = false
 
   All_known : List (List ℕ) → Type 0
-  All_known names = AllByRecursion (λ name. is_bus_name name ≡ true → Known name (reader_takes s m).apps) names
+  All_known names = AllByRecursion (λ name. is_connection name ≡ true → Known name (reader_takes s m).apps) names
 
   others : (q : Option Question) → question_returned m h.asked ≡ q → (q ≡ Some GetChildren → ⊥) → replied_state.registry ≡ s.registry → All_known (names_told h m (question_returned m h.asked))
   unfolding All_known
   others q is no_children reg = subst All_known (sym (other_names (question_returned m h.asked) (λ k. no_children (sym is ∙ k)))) (new_child_known reg)
 
   -- of a return with the children: nobody's end is told with it
-  listed : (names : List (List ℕ)) → AllByRecursion (λ name. is_bus_name name ≡ true → Known name replied_state.apps) names → ((name : List ℕ) → Known name replied_state.apps → Known name ended_state.apps) → All_known names
+  listed : (names : List (List ℕ)) → AllByRecursion (λ name. is_connection name ≡ true → Known name replied_state.apps) names → ((name : List ℕ) → Known name replied_state.apps → Known name ended_state.apps) → All_known names
   unfolding All_known
   listed [] a f = tt
   listed (name ∷ names) a f = ((λ is. known_last name (known_child name (new_child ended_state m) (f name (a.0 is)))), listed names a.1 f)
@@ -256,10 +255,10 @@ module _ (script : List Line) (es : List Entry) (w : World) (g : Ground script e
       by (children q two is reg) =
           subst All_known (sym (ap (names_told h m) q))
           (listed (map (λ (root : Reference). root.bus) (references_among (elements_of m.body)))
-          (subst (λ l. AllByRecursion (λ name. is_bus_name name ≡ true → Known name l) (map (λ (root : Reference). root.bus) (references_among (elements_of m.body)))) (sym is)
+          (subst (λ l. AllByRecursion (λ name. is_connection name ≡ true → Known name l) (map (λ (root : Reference). root.bus) (references_among (elements_of m.body)))) (sym is)
           (fold_known (notes s m).apps (references_among (elements_of m.body))))
           (λ name i. subst (λ o. Known name (with_end replied_state o).apps) (sym (no_end two)) i))
 
-  pub named_behind : AllByRecursion (λ name. is_bus_name name ≡ true → IsKnownOrGone (world_behind w conn) (reader_takes s m) hearer name) hearer.named
+  pub named_behind : AllByRecursion (λ name. is_connection name ≡ true → IsKnownOrGone (world_behind w conn) (reader_takes s m) hearer name) hearer.named
   unfolding All_known
-  named_behind = all_append (λ name. is_bus_name name ≡ true → Known name (reader_takes s m).apps) h.named (names_told h m (question_returned m h.asked)) (old h.named embedded t.wants.named) new_names
+  named_behind = all_append (λ name. is_connection name ≡ true → Known name (reader_takes s m).apps) h.named (names_told h m (question_returned m h.asked)) (old h.named embedded t.wants.named) new_names

@@ -2,13 +2,13 @@
 use Rattle.std.proofs.Common.{◌≡◌, ◌⊎◌, inl, inr, ℕ, Bool, true, false, List, [], ◌∷◌, ◌++◌, map, Option, None, Some, refl, sym, ap, ◌∙◌, subst}
 use Rattle.std.specs.Prelude.{◌==◌, ◌&&◌, if◌then◌else◌}
 use Rattle.std.specs.List.{AllByRecursion, list_all}
-use Rattle.atspi_base.specs.valid_names.Names.{is_bus_name}
 use Rattle.atspi_script_lines.specs.declared.line.Line.{Line}
 use Rattle.atspi_script_lines.specs.declared.line.Party.TheVariants.{App, Reader}
 use Rattle.atspi_message.specs.Envelope.{Envelope}
 use Rattle.atspi_match.specs.routing.Routing.{is_reply}
 use Rattle.atspi_protocol.specs.declared.following.question.Question.{Question}
 use Rattle.atspi_protocol.specs.declared.following.question.Question.TheVariants.{GetItems, GetPart}
+use Rattle.atspi_protocol.specs.following.Known.{is_connection}
 use Rattle.atspi_protocol.specs.following.Calls.{asking}
 use Rattle.atspi_protocol.specs.following.ReaderState.{Pending, ReaderState, sends}
 use Rattle.atspi_protocol.specs.following.Replied.{is_reply_to}
@@ -153,8 +153,8 @@ wants_none script es w conn r e h letter rest s g behind x t replies differ sees
 }
 
 -- WITH A CALL OF ITS OWN
-named_asked : (w v : World) (s : ReaderState) (h : Hearer) (question : Question) (names : List (List ℕ)) → ((name : List ℕ) → IsGone w name → IsGone v name) → AllByRecursion (λ name. is_bus_name name ≡ true → IsKnownOrGone w s h name) names
-    → AllByRecursion (λ name. is_bus_name name ≡ true → IsKnownOrGone v s (asks question h) name) names
+named_asked : (w v : World) (s : ReaderState) (h : Hearer) (question : Question) (names : List (List ℕ)) → ((name : List ℕ) → IsGone w name → IsGone v name) → AllByRecursion (λ name. is_connection name ≡ true → IsKnownOrGone w s h name) names
+    → AllByRecursion (λ name. is_connection name ≡ true → IsKnownOrGone v s (asks question h) name) names
 named_asked w v s h question [] f a = tt
 named_asked w v s h question (name ∷ names) f a = ((λ is. by (a.0 is)), named_asked w v s h question names f a.1)
   where

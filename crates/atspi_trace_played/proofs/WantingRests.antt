@@ -2,9 +2,10 @@
 use Rattle.std.proofs.Common.{◌≡◌, inl, inr, ℕ, Bool, true, false, List, [], ◌∷◌, ◌++◌, map, Option, None, Some, refl, sym, ap, ap₂, ◌∙◌, subst}
 use Rattle.std.specs.Prelude.{◌&&◌, ◌||◌, not, bytes_eq, filter, flat_map, if◌then◌else◌}
 use Rattle.std.specs.List.{AllByRecursion, list_all}
+use Rattle.std.proofs.lemmas.Bool.{and_from}
 use Rattle.std.proofs.lemmas.List.{append-nil}
 use Rattle.std.proofs.lemmas.Slice.Eq.{bytes_eq-Decides}
-use Rattle.atspi_base.specs.valid_names.Names.{is_bus_name}
+use Rattle.atspi_base.specs.valid_names.Names.{is_bus_name, is_unique_name}
 use Rattle.atspi_tree_model.specs.declared.view.Row.{Row}
 use Rattle.atspi_tree_model.specs.Forest.{Forest, labels}
 use Rattle.atspi_tree_model.specs.View.{view}
@@ -13,6 +14,7 @@ use Rattle.atspi_script_lines.specs.declared.line.Party.TheVariants.{App}
 use Rattle.atspi_protocol.specs.declared.news.part.PartName.{PartName}
 use Rattle.atspi_protocol.specs.declared.news.part.PartName.TheVariants.{Text, Caret, Columns}
 use Rattle.atspi_protocol.specs.declared.following.question.Question.TheVariants.{GetItems, GetPart}
+use Rattle.atspi_protocol.specs.following.Known.{is_connection}
 use Rattle.atspi_protocol.specs.following.ReaderState.{Followed, Pending, ReaderState, is_named}
 use Rattle.atspi_protocol.specs.following.Takes.{found_in}
 use Rattle.atspi_protocol.specs.following.Wishes.{same_part, is_refused, unknown_parts, row_wishes, wishes_of, wishes}
@@ -31,6 +33,8 @@ use Rattle.atspi_trace_laws.proofs.OfOrder.Each.{all_map}
 use Rattle.atspi_trace_laws.proofs.OfHeld.Keeping.{SameKept}
 use Rattle.atspi_trace_caches.proofs.OfCaches.LawCaches.{caches_follow}
 use Rattle.atspi_trace_laws.proofs.OfMissed.Registering.{name_is_bus_name}
+use Rattle.atspi_trace_laws.proofs.OfSigned.Mail.{NameIs}
+use Rattle.atspi_trace_laws.proofs.OfSigned.Self.{unique_told}
 use Rattle.atspi_trace_caches.proofs.OfServed.LawServed.{steps_asked}
 use Rattle.atspi_trace_caches.proofs.OfSettled.Settling_serials.{same_hearer}
 use Rattle.atspi_trace_caches.proofs.OfSettled.Settling_ground.{unique_is}
@@ -131,9 +135,12 @@ module _ (script : List Line) (es : List Entry) (w : World) (g : Ground script e
     starts : BeginsWell h.asked
     starts = (t.asks.order.0, sym (append-nil (map question_of h.asked)) ∙ ap (λ l. map question_of h.asked ++ l) (sym idle.0) ∙ t.asks.order.1)
 
-    item : (name : List ℕ) → (is_bus_name name ≡ true → IsKnownOrGone w s h name) → IsNameHere w.ends name → IsAsked (GetItems name) h.asked
-    item name f at = by (f (name_is_bus_name es (App at.1) name (known script es w None g).few (inr (unique_is es w (shape script es w None g) (known script es w None g) at.0 at.1 at.2 name at.3 at.4 at.6))))
+    item : (name : List ℕ) → (is_connection name ≡ true → IsKnownOrGone w s h name) → IsNameHere w.ends name → IsAsked (GetItems name) h.asked
+    item name f at = by (f (and_from (is_bus_name name) (is_unique_name name) (name_is_bus_name es (App at.1) name (known script es w None g).few known_so) (unique_told es (App at.1) name known_so)))
       where
+        known_so : NameIs es (App at.1) name
+        known_so = inr (unique_is es w (shape script es w None g) (known script es w None g) at.0 at.1 at.2 name at.3 at.4 at.6)
+
         by : IsKnownOrGone w s h name → IsAsked (GetItems name) h.asked
         by (inl found) =
             let of = found_is (WantsOf es r h) name s.apps found.0 found.1 t.wants.each in
@@ -176,7 +183,7 @@ module _ (script : List Line) (es : List Entry) (w : World) (g : Ground script e
     pub asks_all : HasAskedAll es w.ends r h
     asks_all = record {
       starts = starts;
-      items = all_map (λ name. is_bus_name name ≡ true → IsKnownOrGone w s h name) (λ name. IsNameHere w.ends name → IsAsked (GetItems name) h.asked) h.named item t.wants.named;
+      items = all_map (λ name. is_connection name ≡ true → IsKnownOrGone w s h name) (λ name. IsNameHere w.ends name → IsAsked (GetItems name) h.asked) h.named item t.wants.named;
       parts = parts;
     }
 

@@ -3,7 +3,6 @@ use Rattle.std.proofs.Common.{◌≡◌, ◌⊎◌, inl, inr, ℕ, suc, ◌+◌,
 use Rattle.std.specs.Prelude.{option_map}
 use Rattle.std.specs.List.{AllByRecursion}
 use Rattle.std.proofs.lemmas.List.{append-nil}
-use Rattle.atspi_base.specs.valid_names.Names.{is_bus_name}
 use Rattle.atspi_names.specs.Owners.{unique_name}
 use Rattle.atspi_script_lines.specs.declared.line.Line.{Line}
 use Rattle.atspi_script_lines.specs.declared.line.Party.{Party}
@@ -12,6 +11,7 @@ use Rattle.atspi_message.specs.Envelope.{Envelope}
 use Rattle.atspi_protocol.specs.declared.news.part.PartName.{PartName}
 use Rattle.atspi_protocol.specs.declared.following.question.Question.{Question}
 use Rattle.atspi_protocol.specs.declared.following.question.Question.TheVariants.{Hello, GetPart}
+use Rattle.atspi_protocol.specs.following.Known.{is_connection}
 use Rattle.atspi_protocol.specs.following.Calls.{user_call}
 use Rattle.atspi_protocol.specs.following.ReaderState.{Followed, Pending, ReaderState}
 use Rattle.atspi_protocol.specs.following.Takes.{reader_calls}
@@ -92,8 +92,8 @@ module _ (es ys : List Entry) (r : ℕ) (h : Hearer) (skips : AllByRecursion (No
   waits_over pending f p is name path part q = let x = f p is name path part q in (x.0, name_more es ys x.0 name x.1, part_more es ys r x.0 name path part (no_got_load es ys r x.0 skips) x.2)
 
 -- names that are known, asked for or gone
-pub named_over : (w v : World) (s : ReaderState) (h : Hearer) (names : List (List ℕ)) → ((name : List ℕ) → IsGone w name → IsGone v name) → AllByRecursion (λ name. is_bus_name name ≡ true → IsKnownOrGone w s h name) names
-    → AllByRecursion (λ name. is_bus_name name ≡ true → IsKnownOrGone v s h name) names
+pub named_over : (w v : World) (s : ReaderState) (h : Hearer) (names : List (List ℕ)) → ((name : List ℕ) → IsGone w name → IsGone v name) → AllByRecursion (λ name. is_connection name ≡ true → IsKnownOrGone w s h name) names
+    → AllByRecursion (λ name. is_connection name ≡ true → IsKnownOrGone v s h name) names
 named_over w v s h [] f a = tt
 named_over w v s h (name ∷ names) f a = ((λ is. by (a.0 is)), named_over w v s h names f a.1)
   where
@@ -103,7 +103,7 @@ named_over w v s h (name ∷ names) f a = ((λ is. by (a.0 is)), named_over w v 
     by (inr (inr gone)) = inr (inr (f name gone))
 
 named_listed : (w v : World) (s : ReaderState) (h : Hearer) (es : List Entry) (names : List (List ℕ)) → AllByRecursion (Embedded es) names → ((name : List ℕ) → Embedded es name → IsGone w name → IsGone v name)
-    → AllByRecursion (λ name. is_bus_name name ≡ true → IsKnownOrGone w s h name) names → AllByRecursion (λ name. is_bus_name name ≡ true → IsKnownOrGone v s h name) names
+    → AllByRecursion (λ name. is_connection name ≡ true → IsKnownOrGone w s h name) names → AllByRecursion (λ name. is_connection name ≡ true → IsKnownOrGone v s h name) names
 named_listed w v s h es [] l f a = tt
 named_listed w v s h es (name ∷ names) l f a = ((λ is. by (a.0 is)), named_listed w v s h es names l.1 f a.1)
   where

@@ -5,3 +5,4 @@ pub mod CharLemmas
 pub mod PlainLemmas
 pub mod SeamLemmas
 pub mod StretchLemmas
+pub mod PieceLemmas

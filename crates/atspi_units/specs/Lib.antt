@@ -1,3 +1,4 @@
 pub mod Units
+pub mod Pieces
 pub mod Windows
 pub mod inner

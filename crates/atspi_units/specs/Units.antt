@@ -27,7 +27,8 @@ ends_unit Line = ends_line
 abbrev pub units : Grain → List ℕ → List (List ℕ)
 units unit text = cut (ends_unit unit) [] text []
 
--- the piece from one place up to another holds the character at a place; so many characters stand in the pieces before it
+-- the piece from one place up to another holds the character at a place; so many characters stand in the pieces before
+-- it
 pub record IsUnitAt (pieces : List (List ℕ)) (at start end : ℕ) : Type 0 where
   pub before : List (List ℕ)
   pub piece : List ℕ

@@ -1,7 +1,8 @@
 //! Worked cases: the pieces of texts, and the one that holds a character, worked out by hand from Unicode Standard
 //! Annex 29 and from what a line is here.
 
-ghost use Rattle.std.specs.Prelude.{◌≡◌, ◌∷◌, [], true, false, codes};
+ghost use Rattle.std.specs.Prelude.{◌≡◌, ◌∷◌, [], true, false, codes, None, Some};
+ghost use Rattle.atspi_units.specs.Pieces.{piece_at};
 ghost use Rattle.atspi_units.specs.Windows.{IsUnitWithin};
 ghost use Rattle.atspi_units.specs.Units.{units, ends_line, ends_unit, line_feed, IsUnitAt};
 ghost use Rattle.atspi_units.specs.declared.grain.Grain.TheVariants.{Char, Word, Line};
@@ -42,8 +43,8 @@ pub fn characters()
     ensures not_joined { units Char (codes "no") ≡ codes "no" ∷ [] → ⊥ }
 {}
 
-/// Lines take their line feed with them; an empty line is a line feed alone; a text that ends with one has no empty line
-/// behind it, and a last line without one is a piece too.
+/// Lines take their line feed with them; an empty line is a line feed alone; a text that ends with one has no empty
+/// line behind it, and a last line without one is a piece too.
 pub fn lines()
     ensures none { units Line [] ≡ [] }
     ensures open { units Line (codes "now") ≡ codes "now" ∷ [] }
@@ -61,7 +62,8 @@ pub fn words()
     ensures none { units Word [] ≡ [] }
     ensures two { units Word (codes "one two") ≡ codes "one" ∷ codes " " ∷ codes "two" ∷ [] }
     ensures apostrophe { units Word (codes "can't stop") ≡ codes "can't" ∷ codes " " ∷ codes "stop" ∷ [] }
-    ensures point { units Word (codes "3.2, a_b.") ≡ codes "3.2" ∷ codes "," ∷ codes " " ∷ codes "a_b" ∷ codes "." ∷ [] }
+    ensures point { units Word (codes "3.2, a_b.")
+        ≡ codes "3.2" ∷ codes "," ∷ codes " " ∷ codes "a_b" ∷ codes "." ∷ [] }
     ensures blanks { units Word (codes "a  b") ≡ codes "a" ∷ codes "  " ∷ codes "b" ∷ [] }
     ensures mark { units Word (101 ∷ 769 ∷ 116 ∷ 32 ∷ []) ≡ (101 ∷ 769 ∷ 116 ∷ []) ∷ (32 ∷ []) ∷ [] }
     ensures return_and_feed { units Word (97 ∷ 13 ∷ 10 ∷ 98 ∷ []) ≡ (97 ∷ []) ∷ (13 ∷ 10 ∷ []) ∷ (98 ∷ []) ∷ [] }
@@ -82,7 +84,20 @@ pub fn held()
     ensures not_behind_all { IsUnitAt (codes "one" ∷ codes " " ∷ []) 4 4 5 → ⊥ }
 {}
 
-/// A window tells a piece where both its ends are seen, and the ends of the text count only where the window reaches them.
+/// The same piece as a value.
+pub fn values()
+    ensures first { piece_at (codes "one" ∷ codes " " ∷ codes "two" ∷ []) 2
+        ≡ Some (record { characters = codes "one"; start = 0; end = 3 }) }
+    ensures next { piece_at (codes "one" ∷ codes " " ∷ codes "two" ∷ []) 3
+        ≡ Some (record { characters = codes " "; start = 3; end = 4 }) }
+    ensures last { piece_at (codes "one" ∷ codes " " ∷ codes "two" ∷ []) 6
+        ≡ Some (record { characters = codes "two"; start = 4; end = 7 }) }
+    ensures none { piece_at (codes "one" ∷ codes " " ∷ codes "two" ∷ []) 7 ≡ None }
+    ensures of_nothing { piece_at [] 0 ≡ None }
+{}
+
+/// A window tells a piece where both its ends are seen, and the ends of the text count only where the window reaches
+/// them.
 pub fn windows()
     ensures character { IsUnitWithin Char (codes "no") (record { start = false; end = false }) 1 1 2 }
     ensures not_the_first { IsUnitWithin Char (codes "no") (record { start = false; end = false }) 1 0 1 → ⊥ }

@@ -10,6 +10,6 @@ mod unit;
 mod window;
 
 pub use grain::Grain;
-pub use laws::{one_unit, pieces_are_the_text, word_pieces};
+pub use laws::{one_unit, piece_is_told, pieces_are_the_text, word_pieces};
 pub use unit::unit_at;
 pub use window::{Reaches, unit_within};

@@ -17,8 +17,8 @@ fn is_ignored(class: WordBreak) -> bool
     )
 }
 
-/// Whether a word ends behind a character of the one class and before one of the other, whatever stands around them: the
-/// first is named by none of the rules but those on pairs, and those do not join it to the second.
+/// Whether a word ends behind a character of the one class and before one of the other, whatever stands around them:
+/// the first is named by none of the rules but those on pairs, and those do not join it to the second.
 fn word_ends(left: WordBreak, right: WordBreak) -> bool
     ensures { result ≡ word_ends left right }
 {

@@ -15,9 +15,9 @@ pub struct Reaches {
 
 /// The piece of a text that holds a character, told from a window of the text: where it starts, and where the next one
 /// does. Places count characters from the start of the window. None where the window does not show both ends of the
-/// piece, so that a larger one is to be looked at; one that reaches both ends of the text shows them. A line is shown by
-/// the line feed before it, its own and what follows that; a word by a character before it that no word holds with others
-/// (a blank, most punctuation, an ideograph), and another behind it with what follows that. Takes no memory.
+/// piece, so that a larger one is to be looked at; one that reaches both ends of the text shows them. A line is shown
+/// by the line feed before it, its own and what follows that; a word by a character before it that no word holds with
+/// others (a blank, most punctuation, an ideograph), and another behind it with what follows that. Takes no memory.
 pub fn unit_within(unit: Grain, window: &str, reaches: Reaches, at: u32) -> Option<(u32, u32)>
     requires { length (chars window.now) < 4294967295 }
     ensures unit { IfSome result (λ (start, end). IsUnitWithin unit (chars window.now) reaches at start end) }

@@ -1,5 +1,6 @@
 -- What holds of a world at any time.
-use Rattle.std.specs.Prelude.{Bool, true, false, List, All, Result, Ok, Err}
+use Rattle.std.specs.Prelude.{◌≡◌, ℕ, ◌<◌, Bool, true, false, List, [], ◌∷◌, ◌++◌, ◌⊎◌, All, Result, Ok, Err, length}
+use Rattle.std.specs.Prelude.{map, slice_set}
 use Rattle.atspi_match.specs.routing.BusState.{BusState}
 use Rattle.atspi_bus_steps.specs.InnerBus.{state_of}
 use Rattle.atspi_bus_steps.specs.Sound.{IsSound}
@@ -40,6 +41,17 @@ apps_of s = s.cast.apps.items
 
 abbrev pub readers_of : {A R K S : Type 0} → Stage A R K S → List R
 readers_of s = s.cast.readers.items
+
+-- the spares that are left
+abbrev pub spares_of : {A R K S : Type 0} → Stage A R K S → List S
+spares_of s = s.spares.items
+
+-- The last spare is taken, and the texts of an application that is there lie in it from now on, those of the others
+-- where they did. Where none is left nothing is said.
+abbrev pub IsExchanged : {A S : Type 0} → (A → ℕ) → (S → ℕ) → ℕ → List A → List A → List S → List S → Type 0
+IsExchanged {S = S} texts number app apps others spares left = (spares ≡ [])
+    ⊎ ((spare : S) × (spares ≡ left ++ spare ∷ [])
+    × (app < length apps → map texts others ≡ slice_set (map texts apps) app (number spare)))
 
 -- it holds behind a line that was done, and behind one that was refused
 abbrev pub UnlessHalted : {A : Type 0} → Result A ActFault → Type 0 → Type 0

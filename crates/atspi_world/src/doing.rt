@@ -15,7 +15,7 @@ ghost use Rattle.atspi_world_parties.specs.Refusals.{refusal_of};
 ghost use Rattle.atspi_world_parties.specs.declared.refusing.Refusal.{Refusal};
 ghost use Rattle.atspi_world.specs.Halts.{IsSpentBy};
 ghost use Rattle.atspi_world.specs.Refusals.{CallAtIsRefused};
-ghost use Rattle.atspi_world.specs.Stage.{IsStage, posts_of, apps_of, readers_of};
+ghost use Rattle.atspi_world.specs.Stage.{IsExchanged, IsStage, posts_of, apps_of, readers_of, spares_of};
 ghost use Rattle.atspi_world.specs.Worlds.{staged, Happens, IsPlaying};
 
 use crate::fault::ActFault;
@@ -116,7 +116,7 @@ impl<A: Application, R: Follower> Stage<A, R> {
         Ok(())
     }
 
-    /// An application's texts go into the next spare face, if one is left.
+    /// An application's texts go into the next spare, if one is left, and lie there then.
     pub(crate) fn swap(&mut self, app: u32) -> Result<(), NoMemory>
         requires stage { IsStage A.is_app R.is_follower A.is_kit A.is_spare self.old }
         ensures stage { IsStage A.is_app R.is_follower A.is_kit A.is_spare self.new }
@@ -125,6 +125,9 @@ impl<A: Application, R: Follower> Stage<A, R> {
             → 0 < app_count p.world.ends
             → Happens (plays p swaps_face) (staged A.exporter R.follower self.old)
             (staged A.exporter R.follower self.new)) }
+        ensures exchanged { OnOk result
+            (IsExchanged A.texts A.number app (apps_of self.old) (apps_of self.new) (spares_of self.old)
+            (spares_of self.new)) }
     {
         match self.spares.pop() {
             Some(spare) => swap_at(self.carrier.alloc, &mut self.cast.apps, app, spare),

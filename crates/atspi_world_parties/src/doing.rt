@@ -1,6 +1,6 @@
 //! What users do at one of the ends: edits, calls and swaps of faces.
 
-ghost use Rattle.std.specs.Prelude.{◌≡◌, ◌<◌, map, None, Some, All, IsErrOf, OnOk, OnErr};
+ghost use Rattle.std.specs.Prelude.{◌≡◌, ◌<◌, length, map, slice_set, None, Some, All, IsErrOf, OnOk, OnErr};
 ghost use Rattle.atspi_tree_model.specs.Edits.{IsEdit};
 ghost use Rattle.atspi_reader_calls.specs.Deeds.{MayBeAsked};
 ghost use Rattle.atspi_trace.specs.Work.{not_held, of_edit};
@@ -70,7 +70,8 @@ pub fn call_at<R: Follower>(
     }
 }
 
-/// The texts of an application go into a spare face, if it is there.
+/// The texts of an application go into a spare, if it is there, and lie there then. After want of memory all texts lie
+/// where they did.
 pub fn swap_at<A: Application>(
     alloc: Global,
     apps: &mut [A],
@@ -81,6 +82,10 @@ pub fn swap_at<A: Application>(
     requires apps { All A.is_app apps.old }
     ensures apps { All A.is_app apps.new }
     ensures same { map A.exporter apps.new ≡ map A.exporter apps.old }
+    ensures moved { OnOk result
+        (number < length apps.old
+        → map A.texts apps.new ≡ slice_set (map A.texts apps.old) number (A.number spare)) }
+    ensures stay { OnErr result (map A.texts apps.new ≡ map A.texts apps.old) }
 {
     let place = number as usize;
     if place >= apps.len() {

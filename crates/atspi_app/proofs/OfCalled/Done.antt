@@ -172,6 +172,7 @@ called_by a row members.GetItems body x = inl tt
 called_by a row members.GetText body x = inl tt
 called_by a row members.SetCaretOffset body x = changes_done a (edited_at a (Caret row.shape.node) (signed_at 0 body)) (at_done a (Caret row.shape.node) (signed_at 0 body))
 called_by a row members.GetCharacterAtOffset body x = inl tt
+called_by a row members.GetStringAtOffset body x = inl tt
 called_by a row members.GetNSelections body x = inl tt
 called_by a row members.GetSelection body x = inl tt
 called_by a row members.AddSelection body x = changes_done a (edited_between a (Mark row.shape.node) (signed_at 0 body) (signed_at 1 body)) (between_done a (Mark row.shape.node) (signed_at 0 body) (signed_at 1 body))

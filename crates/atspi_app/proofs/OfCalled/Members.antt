@@ -23,6 +23,7 @@ changes_left members.GetItems h r = absurd (true≢false (sym h))
 changes_left members.GetText h r = absurd (true≢false r)
 changes_left members.SetCaretOffset h r = refl
 changes_left members.GetCharacterAtOffset h r = absurd (true≢false r)
+changes_left members.GetStringAtOffset h r = absurd (true≢false r)
 changes_left members.GetNSelections h r = absurd (true≢false r)
 changes_left members.GetSelection h r = absurd (true≢false r)
 changes_left members.AddSelection h r = refl

@@ -3,9 +3,9 @@ use Rattle.std.proofs.Common.{◌≡◌, ℕ, List, [], ◌∷◌, Some, None, r
 use Rattle.std.specs.Prelude.{ℤ, pos, slice_get, IsSome, IfSome, ◌↔◌, Option}
 use Rattle.std.specs.Int.{w32, cast_unsigned}
 use Rattle.std.proofs.lemmas.Str.{chars-nil}
-use Rattle.atspi_types.specs.Kinds.{Kind, i32, number, text, variant}
+use Rattle.atspi_types.specs.Kinds.{Kind, i32, u32, number, text, variant}
 use Rattle.atspi_types.specs.Data.{Data, number_data, text_data, variant_data, type_of}
-use Rattle.atspi_protocol.specs.members.Arguments.{characters_in, signed_in, value_in}
+use Rattle.atspi_protocol.specs.members.Arguments.{characters_in, signed_in, unsigned_in, value_in}
 use Rattle.atspi_app_calls.specs.reading.Arguments.{IsNoSigned, IsSigned}
 
 pub not_text : (d : Data) → (type_of d ≡ text → ⊥) → chars [] ≡ characters_in (Some d)
@@ -15,6 +15,10 @@ not_text _ other = chars-nil
 pub not_signed : (d : Data) → (type_of d ≡ number i32 → ⊥) → pos 0 ≡ signed_in (Some d)
 not_signed (number_data i32 n) other = absurd (other refl)
 not_signed _ other = refl
+
+pub not_unsigned : (d : Data) → (type_of d ≡ number u32 → ⊥) → 0 ≡ unsigned_in (Some d)
+not_unsigned (number_data u32 n) other = absurd (other refl)
+not_unsigned _ other = refl
 
 pub not_variant : (d : Data) → (type_of d ≡ variant → ⊥) → IsNoSigned (value_in (Some d))
 not_variant (variant_data k x) other = absurd (other refl)

@@ -4,7 +4,7 @@
 ghost use Rattle.std.specs.Prelude.{◌≡◌, Some, chars};
 ghost use Rattle.atspi_marshal_in_place.specs.Items.{item_data, fields_data};
 ghost use Rattle.atspi_protocol.specs.members.Arguments.{characters_in, signed_in, text_at, signed_at, value_at};
-ghost use Rattle.atspi_protocol.specs.members.Arguments.{value_in};
+ghost use Rattle.atspi_protocol.specs.members.Arguments.{value_in, unsigned_in, unsigned_at};
 ghost use Rattle.atspi_app_calls.specs.reading.Arguments.{IsSigned};
 
 use atspi_marshal_in_place::{Fields, Item};
@@ -24,6 +24,16 @@ fn signed_of(item: Item) -> i32
     ensures { result ≡ signed_in (Some (item_data item.entry)) }
 {
     if let Some(number) = item.i32() {
+        return number;
+    }
+    0
+}
+
+/// The number without a sign, and 0 for another value.
+fn unsigned_of(item: Item) -> u32
+    ensures { result ≡ unsigned_in (Some (item_data item.entry)) }
+{
+    if let Some(number) = item.u32() {
         return number;
     }
     0
@@ -69,6 +79,28 @@ pub fn second_signed(args: Fields) -> i32
     let mut rest = args;
     match rest.next() {
         Some(_) => first_signed(rest),
+        None => 0,
+    }
+}
+
+/// The first argument where it is a number without a sign, and 0 else.
+fn first_unsigned(args: Fields) -> u32
+    ensures { result ≡ unsigned_at 0 (fields_data args.entry) }
+{
+    let mut rest = args;
+    match rest.next() {
+        Some(first) => unsigned_of(first),
+        None => 0,
+    }
+}
+
+/// The second argument where it is a number without a sign, and 0 else.
+pub fn second_unsigned(args: Fields) -> u32
+    ensures { result ≡ unsigned_at 1 (fields_data args.entry) }
+{
+    let mut rest = args;
+    match rest.next() {
+        Some(_) => first_unsigned(rest),
         None => 0,
     }
 }

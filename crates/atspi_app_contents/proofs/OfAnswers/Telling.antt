@@ -8,16 +8,17 @@ use Rattle.atspi_tree_model.specs.declared.contents.FaceData.{FaceData}
 use Rattle.atspi_tree_model.specs.declared.contents.FaceData.TheVariants.{Chars, Grid, Deeds}
 use Rattle.atspi_tree_model.specs.Row.{ShapeRow, TextContents}
 use Rattle.atspi_protocol.specs.declared.members.member.ObjectMember.{ObjectMember}
-use Rattle.atspi_protocol.specs.declared.members.member.ObjectMember.TheVariants.{GetText, GetCharacterAtOffset, GetNSelections, GetSelection, GetSelectedChild, IsChildSelected, GetAccessibleAt, GetIndexAt, GetRowAtIndex, GetColumnAtIndex, GetSelectedRows, IsRowSelected, IsSelected, GetName, GetDescription, GetKeyBinding, GetActions}
+use Rattle.atspi_protocol.specs.declared.members.member.ObjectMember.TheVariants.{GetText, GetCharacterAtOffset, GetStringAtOffset, GetNSelections, GetSelection, GetSelectedChild, IsChildSelected, GetAccessibleAt, GetIndexAt, GetRowAtIndex, GetColumnAtIndex, GetSelectedRows, IsRowSelected, IsSelected, GetName, GetDescription, GetKeyBinding, GetActions}
 use Rattle.atspi_protocol.specs.declared.members.property.ObjectProperty.TheVariants.{CharacterCount, CaretOffset, NSelectedChildren, NRows, NColumns, NActions}
-use Rattle.atspi_protocol.specs.members.Arguments.{signed_at}
+use Rattle.atspi_protocol.specs.members.Arguments.{signed_at, unsigned_at}
+use Rattle.atspi_protocol.specs.members.Granularity.{grain_of}
 use Rattle.atspi_tree.specs.TreeShape.{TreeShape, IsLawful, row_of, children_of}
 use Rattle.atspi_faces.specs.face.Nodes.{Nodes}
 use Rattle.atspi_protocol.specs.whole.Whole.{Faces, filled, as_columns, as_actions}
 use Rattle.atspi_protocol.specs.objects.Application.{Application}
 use Rattle.atspi_protocol.specs.objects.Values.{count_data}
 use Rattle.atspi_protocol.specs.objects.Children as children
-use Rattle.atspi_protocol.specs.objects.Texts.{text_of, part_of, character_data, selection_data}
+use Rattle.atspi_protocol.specs.objects.Texts.{text_of, part_of, character_data, piece_there, piece_data, selection_data}
 use Rattle.atspi_protocol.specs.objects.Tables as tables
 use Rattle.atspi_protocol.specs.objects.Answers.{tells_all, name_data, actions_data}
 use Rattle.atspi_app_values.specs.Numbers.{numbered_or_null}
@@ -53,6 +54,15 @@ module _ (texts : Nodes) (n : ℕ) (body : List Data) (vs : List Data) where
       ap (λ (x : TextContents). tells_all (seen t (faces_of texts columns actions) name id) (character_data (children.at (signed_at 0 body) x.characters) ∷ [])) (text_found t columns actions s is)
       ∙ ap (λ z. tells_all (seen t (faces_of texts columns actions) name id) (character_data (children.at z (text_at texts n).characters) ∷ [])) (sym e)
       ∙ ap (tells_all (seen t (faces_of texts columns actions) name id)) (sym h)
+
+  pub tells_piece : (place : ℤ) (granularity : ℕ) → place ≡ signed_at 0 body → granularity ≡ unsigned_at 1 body
+      → vs ≡ piece_data (piece_there (grain_of granularity) (text_at texts n).characters place) → TellsText texts n GetStringAtOffset body vs
+  tells_piece place granularity e f h t columns actions name id s is =
+      let a = seen t (faces_of texts columns actions) name id in
+      ap (λ (x : TextContents). tells_all a (piece_data (piece_there (grain_of (unsigned_at 1 body)) x.characters (signed_at 0 body)))) (text_found t columns actions s is)
+      ∙ ap (λ z. tells_all a (piece_data (piece_there (grain_of (unsigned_at 1 body)) (text_at texts n).characters z))) (sym e)
+      ∙ ap (λ m. tells_all a (piece_data (piece_there (grain_of m) (text_at texts n).characters place))) (sym f)
+      ∙ ap (tells_all a) (sym h)
 
   pub tells_selection_count : vs ≡ count_data (length (text_at texts n).selections) ∷ [] → TellsText texts n GetNSelections body vs
   tells_selection_count h t columns actions name id s is =

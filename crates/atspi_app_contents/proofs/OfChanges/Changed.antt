@@ -1,40 +1,35 @@
 -- What a call of a member changes, by the numbers of nodes and by the contents that are known.
-use Rattle.std.proofs.Common.{◌≡◌, ℕ, zero, suc, ℤ, ◌+◌, ◌<◌, Bool, true, false, cond, List, [], ◌∷◌, ◌++◌, Option, Some, None, map, length, take, drop, get_or, append_assoc, refl, sym, ap, subst, ◌∙◌}
+use Rattle.std.proofs.Common.{◌≡◌, ℕ, zero, suc, ℤ, ◌+◌, ◌<◌, Bool, true, false, cond, List, [], ◌∷◌, ◌++◌, Option, Some, None, map, length, drop, get_or, append_assoc, refl, sym, ap, subst, ◌∙◌}
 use Rattle.std.proofs.lemmas.List.{append-nil, drop_more}
-use Rattle.std.specs.Prelude.{pos, negsuc, filter, not, nat_lt, nat_le, slice_get, ◌&&◌}
-use Rattle.std.specs.FinMap.{get}
-use Rattle.std.specs.Option.{option_map, option_map_or}
+use Rattle.std.specs.Prelude.{pos, negsuc, filter, not, slice_get}
+use Rattle.std.specs.Option.{option_map}
 use Rattle.atspi_types.specs.Data.{Data}
 use Rattle.atspi_tree_model.specs.declared.contents.FaceData.{FaceData}
-use Rattle.atspi_tree_model.specs.declared.contents.FaceData.TheVariants.{Chars, Grid, Deeds}
+use Rattle.atspi_tree_model.specs.declared.contents.FaceData.TheVariants.{Deeds}
 use Rattle.atspi_tree_model.specs.declared.edit.Edit.{Edit}
 use Rattle.atspi_tree_model.specs.declared.edit.Edit.TheVariants.{Put, Cut, Caret, Mark, Select, Deselect, Press}
 use Rattle.atspi_tree_model.specs.declared.step.Step.{Step}
 use Rattle.atspi_tree_model.specs.declared.step.Step.TheVariants.{SetState}
 use Rattle.atspi_tree_model.specs.Forest.{Forest, find}
-use Rattle.atspi_tree_model.specs.Row.{ShapeRow, TreeRow, TextContents, Each, IsText}
+use Rattle.atspi_tree_model.specs.Row.{ShapeRow, TreeRow, TextContents, Each}
 use Rattle.atspi_tree_model.specs.States.{has_state}
-use Rattle.atspi_tree_model.specs.Tree.{is_shape, is_node}
+use Rattle.atspi_tree_model.specs.Tree.{is_node}
 use Rattle.atspi_tree_model.specs.Edits.{known_text, text_contents, action_contents, contents_read}
-use Rattle.atspi_protocol.specs.declared.members.member.ObjectMember.{ObjectMember}
 use Rattle.atspi_protocol.specs.declared.members.member.ObjectMember.TheVariants.{SetCaretOffset, AddSelection, RemoveSelection, SetSelection, SetTextContents, InsertText, DeleteText, SelectChild, DeselectChild, DeselectSelectedChild, SelectAll, ClearSelection, DoAction}
 use Rattle.atspi_protocol.specs.members.Arguments.{signed_at, text_at as text_argument}
 use Rattle.atspi_tree.specs.TreeShape.{TreeShape, IsLawful, row_of, children_of}
 use Rattle.atspi_tree_edits.specs.Answers.{IsKnown, edit_steps}
-use Rattle.atspi_faces.specs.face.Nodes.{Nodes}
 use Rattle.atspi_protocol.specs.whole.Whole.{Faces, whole, filled}
-use Rattle.atspi_protocol.specs.objects.Application.{Application}
 use Rattle.atspi_protocol.specs.objects.Children as children
 use Rattle.atspi_protocol.specs.objects.Texts.{text_of}
-use Rattle.atspi_protocol.specs.objects.Changes.{edited, edited_at, edited_between, text_exchanged, selection_removed, selection_set, selected_child_off, all_selected, none_selected}
-use Rattle.atspi_protocol.specs.objects.Answers.{called, changes}
+use Rattle.atspi_protocol.specs.objects.Changes.{edited, edited_at, edited_between, selection_removed, selection_set}
+use Rattle.atspi_protocol.specs.objects.Answers.{changes}
 use Rattle.atspi_app_contents.specs.values.Places.{place_of}
-use Rattle.atspi_app_contents.specs.texts.Texts.{text_at, text_or_none, contents_at, KeepsText}
 use Rattle.atspi_app_contents.specs.values.Numbers.{is_selected, node_at, selected_among}
-use Rattle.atspi_app_contents.specs.values.Seen.{faces_of, seen}
+use Rattle.atspi_app_contents.specs.values.Seen.{seen}
 use Rattle.atspi_app_contents.proofs.OfValues.Seen.{Same, numbers_of, found_number, kids_seen, kids_same, chosen_seen}
 use Rattle.atspi_app_contents.specs.changes.inner.Steps.{granted, at_place, at_places, exchanged, removed, replaced_at, differs, choosing, unchosen}
-use Rattle.atspi_app_contents.specs.changes.Changing.{Changes, ChangesAt, ChangesText, ChangesActions, ChangesChildren, changes_text, changes_children, acts, changes_contents}
+use Rattle.atspi_app_contents.specs.changes.Changing.{ChangesText, ChangesActions, ChangesChildren}
 use Rattle.atspi_app_contents.proofs.OfChanges.EditLemmas.{place_same, places_same, at_by, between_by, found, edited_is}
 use Rattle.atspi_app_contents.proofs.OfChanges.Exchanged.{text_known, exchange_seen}
 

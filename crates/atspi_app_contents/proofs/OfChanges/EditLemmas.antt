@@ -1,5 +1,5 @@
 -- The steps of an edit, by the tree and by the contents that are known.
-use Rattle.std.proofs.Common.{◌≡◌, ℕ, ℤ, Bool, true, false, List, [], ◌∷◌, Option, Some, None, Result, Ok, Err, refl, sym, ap, ◌∙◌}
+use Rattle.std.proofs.Common.{◌≡◌, ℕ, ℤ, List, Option, Some, None, Result, Ok, Err, refl, ap, ◌∙◌}
 use Rattle.std.specs.Prelude.{pos, negsuc}
 use Rattle.std.specs.Option.{option_map}
 use Rattle.atspi_tree_model.specs.declared.contents.FaceData.{FaceData}
@@ -7,7 +7,7 @@ use Rattle.atspi_tree_model.specs.declared.edit.Edit.{Edit}
 use Rattle.atspi_tree_model.specs.declared.edit.EditFault.{EditFault}
 use Rattle.atspi_tree_model.specs.declared.step.Step.{Step}
 use Rattle.atspi_tree_model.specs.Forest.{find}
-use Rattle.atspi_tree_model.specs.Row.{ShapeRow, TreeRow}
+use Rattle.atspi_tree_model.specs.Row.{ShapeRow}
 use Rattle.atspi_tree_model.specs.Tree.{is_shape, is_node}
 use Rattle.atspi_tree_model.specs.Edits.{contents_read, steps_of, steps_of_tree}
 use Rattle.atspi_tree_model.proofs.Lookup.{find-relabel}

@@ -1,9 +1,9 @@
 -- All characters of a text are cut, and others are put in.
-use Rattle.std.proofs.Common.{◌≡◌, ℕ, zero, suc, ℤ, ◌+◌, ◌-◌, ◌<◌, ◌≤◌, ◌==◌, Bool, true, false, cond, List, [], ◌∷◌, ◌++◌, length, take, drop, Option, Some, None, Result, Ok, Err, refl, sym, ap, subst, ◌∙◌, arith}
+use Rattle.std.proofs.Common.{◌≡◌, ℕ, suc, ℤ, ◌+◌, ◌-◌, ◌==◌, Bool, true, false, cond, List, [], ◌∷◌, ◌++◌, length, take, drop, Option, Some, None, refl, sym, ap, subst, ◌∙◌, arith}
 use Rattle.std.specs.Prelude.{pos, nat_lt, nat_le}
 use Rattle.std.proofs.lemmas.Bool.{eqb-true, ltb-false, le-leb}
 use Rattle.atspi_tree_model.specs.declared.contents.FaceData.{FaceData}
-use Rattle.atspi_tree_model.specs.declared.contents.FaceData.TheVariants.{Chars, Grid, Deeds}
+use Rattle.atspi_tree_model.specs.declared.contents.FaceData.TheVariants.{Chars, Deeds}
 use Rattle.atspi_tree_model.specs.declared.edit.Edit.{Edit}
 use Rattle.atspi_tree_model.specs.declared.edit.Edit.TheVariants.{Put, Cut}
 use Rattle.atspi_tree_model.specs.declared.edit.EditFault.{EditFault}
@@ -12,8 +12,8 @@ use Rattle.atspi_tree_model.specs.declared.step.Step.TheVariants.{Delete, Caret}
 use Rattle.atspi_tree_model.specs.Forest.{Forest, find, change}
 use Rattle.atspi_tree_model.specs.Row.{ShapeRow, TreeRow, TextContents, IsText, delete_there, on_some}
 use Rattle.atspi_tree_model.specs.RowRules.{rows, after_delete}
-use Rattle.atspi_tree_model.specs.Tree.{is_shape, is_node, shape_of, after, after_all}
-use Rattle.atspi_tree_model.specs.Edits.{known_text, first_fault, refusals, made_steps, steps_unless, steps_of, steps_of_tree, cutting, text_contents, contents_read}
+use Rattle.atspi_tree_model.specs.Tree.{is_node, shape_of, after, after_all}
+use Rattle.atspi_tree_model.specs.Edits.{known_text, first_fault, refusals, made_steps, steps_unless, steps_of, steps_of_tree, cutting, text_contents}
 use Rattle.atspi_tree_model.proofs.Lookup.{find-change}
 use Rattle.atspi_tree_model.proofs.Relabel.{unseen-change}
 use Rattle.atspi_tree.specs.TreeShape.{TreeShape, row_of}

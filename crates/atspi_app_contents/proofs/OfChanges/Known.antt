@@ -1,5 +1,5 @@
 -- What two faces keep of a node, as the contents that edits read.
-use Rattle.std.proofs.Common.{◌≡◌, ℕ, ℤ, Bool, true, false, List, [], ◌∷◌, Option, Some, None, refl, sym, ap, subst, ◌∙◌}
+use Rattle.std.proofs.Common.{◌≡◌, ℕ, Bool, true, false, List, [], Option, Some, None, refl, sym, ap, ◌∙◌}
 use Rattle.std.specs.Prelude.{◌||◌}
 use Rattle.std.specs.FinMap.{get}
 use Rattle.std.specs.Option.{option_map_or}
@@ -7,14 +7,14 @@ use Rattle.atspi_types.specs.Data.{Data}
 use Rattle.atspi_tree_model.specs.declared.contents.FaceData.{FaceData}
 use Rattle.atspi_tree_model.specs.declared.contents.FaceData.TheVariants.{Chars, Grid, Deeds}
 use Rattle.atspi_tree_model.specs.declared.step.Step.{Step}
-use Rattle.atspi_tree_model.specs.Row.{ShapeRow, TextContents, IsText}
-use Rattle.atspi_tree_model.specs.Edits.{known_text, text_contents, action_contents}
+use Rattle.atspi_tree_model.specs.Row.{TextContents, IsText}
+use Rattle.atspi_tree_model.specs.Edits.{known_text}
 use Rattle.atspi_protocol.specs.declared.members.member.ObjectMember.{ObjectMember}
 use Rattle.atspi_protocol.specs.declared.members.member.ObjectMember.TheVariants.{DoAction}
-use Rattle.atspi_tree.specs.TreeShape.{TreeShape, row_of}
+use Rattle.atspi_tree.specs.TreeShape.{TreeShape}
 use Rattle.atspi_tree_edits.specs.Answers.{IsKnown}
 use Rattle.atspi_faces.specs.face.Nodes.{Nodes}
-use Rattle.atspi_protocol.specs.whole.Whole.{Faces, filled, as_text, as_actions}
+use Rattle.atspi_protocol.specs.whole.Whole.{as_text, as_actions}
 use Rattle.atspi_app_contents.specs.texts.Texts.{text_at, text_or_none, contents_at}
 use Rattle.atspi_app_contents.specs.values.Actions.{actions_in}
 use Rattle.atspi_app_contents.specs.values.Seen.{faces_of}

@@ -13,9 +13,8 @@ use Rattle.atspi_tree_model.specs.Edits.{known_text}
 use Rattle.atspi_faces.specs.face.Contents.{kind_of, count_of, caret_of, marks_of, part_of as face_part, IsPart}
 use Rattle.atspi_faces.specs.face.Nodes.{Nodes, AreContents, HasText, HasPart, count_at, caret_at, marks_at, part_at}
 use Rattle.atspi_protocol.specs.objects.Texts.{part_of}
-use Rattle.atspi_protocol.specs.objects.Children as children
 use Rattle.atspi_app_contents.specs.texts.inner.Parts.{start_at, end_at}
-use Rattle.atspi_app_contents.specs.texts.inner.Selections.{FitsSigned, IsSmall, AreSmall}
+use Rattle.atspi_app_contents.specs.texts.inner.Selections.{IsSmall, AreSmall}
 use Rattle.atspi_app_contents.specs.texts.Texts.{text_at, text_or_none, contents_at, code_of}
 
 whole_taken : (xs : List ℕ) → take (length xs) xs ≡ xs

@@ -1,5 +1,5 @@
 -- The cells of a table.
-use Rattle.std.proofs.Common.{◌≡◌, ℕ, zero, suc, ℤ, ◌+◌, ◌*◌, ◌/◌, ◌%◌, ◌<◌, ◌≤◌, Bool, true, false, cond, List, [], ◌∷◌, ◌++◌, Option, Some, None, length, map, take, drop, refl, sym, ap, ◌∙◌, arith}
+use Rattle.std.proofs.Common.{◌≡◌, ℕ, zero, suc, ◌+◌, ◌*◌, ◌/◌, ◌%◌, ◌<◌, ◌≤◌, Bool, true, false, cond, List, [], ◌∷◌, ◌++◌, Option, Some, None, length, map, take, drop, refl, sym, ap, ◌∙◌, arith}
 use Rattle.std.specs.Prelude.{filter, ◌&&◌, nat_lt, slice_get}
 use Rattle.std.specs.List.{list_all}
 use Rattle.std.proofs.Math.Nat.{mul-le-mul_right, suc-mul, div-mul-le_self, div-le_self, div-zero, mod-le, mul-zero}
@@ -14,7 +14,7 @@ use Rattle.atspi_tree.specs.TreeShape.{TreeShape, IsLawful, children_of}
 use Rattle.atspi_tree.proofs.Walks.{index_small}
 use Rattle.atspi_tree_edits.proofs.Switched.{below, all_below}
 use Rattle.atspi_protocol.specs.objects.Values.{count_data}
-use Rattle.atspi_app_contents.specs.values.Numbers.{is_selected, cell_in, row_in, column_in, is_selected_row, rows_selected}
+use Rattle.atspi_app_contents.specs.values.Numbers.{is_selected, cell_in, is_selected_row, rows_selected}
 
 -- a node has few children
 none_short : {A : Type 0} (xs : List A) (k : ℕ) → slice_get xs k ≡ None → length xs ≤ k

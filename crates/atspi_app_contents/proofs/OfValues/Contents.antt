@@ -1,6 +1,6 @@
 -- What faces of columns and of actions keep of a node.
-use Rattle.std.proofs.Common.{◌≡◌, ℕ, zero, suc, ℤ, ◌+◌, ◌<◌, ◌≤◌, List, [], ◌∷◌, ◌++◌, Option, Some, None, length, take, get_or, refl, sym, ap, ◌∙◌, add-one, arith}
-use Rattle.std.specs.Prelude.{pos, negsuc, slice_get, slice_index_or, MatchOption}
+use Rattle.std.proofs.Common.{◌≡◌, ℕ, zero, suc, ◌+◌, ◌<◌, ◌≤◌, List, [], ◌∷◌, ◌++◌, Option, Some, None, length, take, refl, sym, ap, ◌∙◌, add-one, arith}
+use Rattle.std.specs.Prelude.{slice_get, slice_index_or, MatchOption}
 use Rattle.std.specs.FinMap.{get}
 use Rattle.std.specs.Option.{option_map_or}
 use Rattle.atspi_types.specs.Data.{Data, text_data}

@@ -1,5 +1,5 @@
 -- Each row of a tree is the one found under its number; so a state that is looked up by a number is that of the row.
-use Rattle.std.proofs.Common.{◌≡◌, ℕ, suc, ◌≤◌, ◌==◌, Bool, true, false, cond, List, [], ◌∷◌, Some, refl, sym, ap, ◌∙◌, arith}
+use Rattle.std.proofs.Common.{◌≡◌, ℕ, ◌≤◌, ◌==◌, Bool, true, false, cond, List, [], ◌∷◌, Some, refl, sym, ap, arith}
 use Rattle.std.proofs.lemmas.Bool.{eq-eqb}
 use Rattle.atspi_tree_model.specs.Forest.{Forest, nil, tree, count, find, first_of, tops, children_at, EachLabel}
 use Rattle.atspi_tree_model.specs.Row.{ShapeRow, Each}

@@ -1,5 +1,5 @@
 -- What is read in the tree alone is what the whole tree says.
-use Rattle.std.proofs.Common.{◌≡◌, ℕ, zero, suc, ℤ, Bool, true, false, cond, List, [], ◌∷◌, Option, Some, None, map, length, take, drop, refl, sym, ap, subst, ◌∙◌}
+use Rattle.std.proofs.Common.{◌≡◌, ℕ, zero, suc, ℤ, Bool, true, false, cond, List, [], ◌∷◌, Some, map, length, take, drop, refl, sym, ap, subst, ◌∙◌}
 use Rattle.std.specs.Prelude.{pos, negsuc, slice_get, filter, ◌&&◌}
 use Rattle.std.specs.List.{list_all}
 use Rattle.std.specs.Option.{option_map}
@@ -13,10 +13,10 @@ use Rattle.atspi_tree_model.specs.Tree.{is_shape, is_node}
 use Rattle.atspi_tree_model.proofs.Found.{find-passes}
 use Rattle.atspi_tree_model.proofs.Lookup.{children-relabel}
 use Rattle.atspi_tree.specs.TreeShape.{TreeShape, IsLawful, row_of, children_of}
-use Rattle.atspi_protocol.specs.whole.Whole.{Faces, filled, whole}
+use Rattle.atspi_protocol.specs.whole.Whole.{Faces, filled}
 use Rattle.atspi_protocol.specs.objects.Application.{Application}
 use Rattle.atspi_protocol.specs.objects.Children as children
-use Rattle.atspi_app_contents.specs.values.Numbers.{is_selected, is_selected_there, selected_among, node_at}
+use Rattle.atspi_app_contents.specs.values.Numbers.{is_selected, is_selected_there, selected_among}
 use Rattle.atspi_app_contents.specs.values.Seen.{seen}
 use Rattle.atspi_app_contents.proofs.OfValues.Found.{states_found}
 

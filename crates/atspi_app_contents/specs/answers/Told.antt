@@ -7,6 +7,7 @@ use Rattle.atspi_faces.specs.face.Nodes.{Nodes}
 use Rattle.atspi_protocol.specs.whole.Whole.{Faces, filled}
 use Rattle.atspi_protocol.specs.declared.members.member.ObjectMember.{ObjectMember}
 use Rattle.atspi_protocol.specs.declared.members.member.ObjectMember.TheVariants.{GetText, GetCharacterAtOffset}
+use Rattle.atspi_protocol.specs.declared.members.member.ObjectMember.TheVariants.{GetStringAtOffset}
 use Rattle.atspi_protocol.specs.declared.members.member.ObjectMember.TheVariants.{GetNSelections, GetSelection}
 use Rattle.atspi_protocol.specs.declared.members.member.ObjectMember.TheVariants.{GetSelectedChild, IsChildSelected}
 use Rattle.atspi_protocol.specs.declared.members.member.ObjectMember.TheVariants.{GetAccessibleAt, GetIndexAt}
@@ -57,6 +58,7 @@ IsProperty t faces name n property value = (id : ℤ) (s : ShapeRow) → row_of 
 abbrev pub reads_text : ObjectMember → Bool
 reads_text GetText = true
 reads_text GetCharacterAtOffset = true
+reads_text GetStringAtOffset = true
 reads_text GetNSelections = true
 reads_text GetSelection = true
 reads_text _ = false

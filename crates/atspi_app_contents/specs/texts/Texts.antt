@@ -1,5 +1,5 @@
 -- The texts of nodes as a face keeps them.
-use Rattle.std.specs.Prelude.{◌≡◌, ℕ, List, [], Option, None, Some}
+use Rattle.std.specs.Prelude.{◌≡◌, ℕ, [], Option, None, Some}
 use Rattle.std.specs.Option.{option_map_or}
 use Rattle.std.specs.FinMap.{get}
 use Rattle.atspi_tree_model.specs.declared.contents.FaceData.{FaceData}

@@ -29,6 +29,7 @@ fn reads_text(member: ObjectMember) -> bool
     match member {
         ObjectMember::GetText => true,
         ObjectMember::GetCharacterAtOffset => true,
+        ObjectMember::GetStringAtOffset => true,
         ObjectMember::GetNSelections => true,
         ObjectMember::GetSelection => true,
         _ => false,

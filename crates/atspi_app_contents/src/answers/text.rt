@@ -7,8 +7,8 @@ ghost use Rattle.atspi_marshal_in_place.specs.Items.{fields_data};
 ghost use Rattle.atspi_app_contents.specs.texts.Texts.{KeepsText};
 ghost use Rattle.atspi_app_contents.specs.answers.Told.{TellsText, reads_text};
 
-use crate::texts::{character, part, selection, selection_count};
-use atspi_app_calls::reading::{first_signed, second_signed};
+use crate::texts::{character, part, piece, selection, selection_count};
+use atspi_app_calls::reading::{first_signed, grain_of, second_signed, second_unsigned};
 use atspi_base::NoMemory;
 use atspi_faces::face::Face;
 use atspi_marshal_in_place::Fields;
@@ -49,6 +49,27 @@ fn get_character<C: Face>(
 {
     let value = character(texts, node, first_signed(args))?;
     one(alloc, value)
+}
+
+/// GetStringAtOffset.
+fn get_string<C: Face>(
+    alloc: Global,
+    texts: &C,
+    node: u32,
+    args: Fields,
+) -> Result<Values, NoMemory>
+    requires { KeepsText (C.of_kind texts.now) (C.nodes texts.now) node }
+    ensures { IfOk result
+        (λ values. TellsText (C.nodes texts.now) node ObjectMember.GetStringAtOffset (fields_data args.entry)
+        (all_data values)) }
+{
+    piece(
+        alloc,
+        texts,
+        node,
+        grain_of(second_unsigned(args)),
+        first_signed(args),
+    )
 }
 
 /// GetNSelections.
@@ -94,6 +115,7 @@ pub(crate) fn text<C: Face>(
     match member {
         ObjectMember::GetText => get_text(alloc, texts, node, args),
         ObjectMember::GetCharacterAtOffset => get_character(alloc, texts, node, args),
+        ObjectMember::GetStringAtOffset => get_string(alloc, texts, node, args),
         ObjectMember::GetNSelections => get_selection_count(alloc, texts, node),
         ObjectMember::GetSelection => get_selection(alloc, texts, node, args),
         _ => unreachable!(),

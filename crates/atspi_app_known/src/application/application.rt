@@ -1,6 +1,6 @@
 //! An application, as a world and a live end hold it.
 
-ghost use Rattle.std.specs.Prelude.{◌≡◌, ◌∷◌, [], Ok, Err, false, true, IfOk, IsErrOf, MatchOption, OnOk, OnErr};
+ghost use Rattle.std.specs.Prelude.{◌≡◌, ◌∷◌, [], ℕ, Ok, Err, false, true, IfOk, IsErrOf, MatchOption, OnOk, OnErr};
 ghost use Rattle.atspi_tree_model.specs.Row.{IsName};
 ghost use Rattle.atspi_tree_model.specs.Edits.{IsEdit};
 ghost use Rattle.atspi_tree_model.specs.declared.edit.EditFault.{EditFault};
@@ -34,6 +34,12 @@ pub trait Application: Drop {
     ghost is_kit: { Self.Kit → Type 0 };
 
     ghost is_spare: { Self.Spare → Type 0 };
+
+    /// Which one its texts lie in: a number that no other has at the same time.
+    ghost texts: { Self → ℕ };
+
+    /// The number of a spare.
+    ghost number: { Self.Spare → ℕ };
 
     /// An application with the root alone, over an empty kit.
     fn new(alloc: Global, name: Text, kit: Self::Kit) -> Result<Self, NoMemory>
@@ -91,10 +97,12 @@ pub trait Application: Drop {
             (λ event. (exporter self.old).out ≡ happening_of event ∷ (exporter self.new).out) }
         ensures rest { exporter self.new ≡ record (exporter self.old) { out = (exporter self.new).out } };
 
-    /// Its texts lie in the spare from now on.
+    /// Its texts lie in the spare from now on. After want of memory they lie where they did.
     fn swap_face(&mut self, alloc: Global, spare: Self::Spare) -> Result<(), NoMemory>
         requires spare { is_spare spare }
         requires app { is_app self.old }
         ensures app { is_app self.new }
-        ensures same { exporter self.new ≡ exporter self.old };
+        ensures same { exporter self.new ≡ exporter self.old }
+        ensures moved { OnOk result (texts self.new ≡ number spare) }
+        ensures stay { OnErr result (texts self.new ≡ texts self.old) };
 }

@@ -53,12 +53,15 @@ pub fn user_calls()
     ensures next { (reader_calls (record begins { next = 6 }) (codes ":1.7") 1 (SetCaret 2)).next ≡ 7 }
 {}
 
-/// Only a return with a list of references tells the registry's children; an error with such a body does not.
+/// Only a return with a list of references tells the registry's children; an error with such a body does not. A child
+/// with a well-known name makes nobody known.
 #[tactic(auto, unfolding(atspi_base::specs::valid_names::Names::is_bus_name, atspi_base::specs::valid_names::Elements::are_two_or_more, atspi_base::specs::valid_names::Elements::are_elements, atspi_base::specs::valid_names::Elements::parts_of))]
 pub fn children()
     ensures told { (with_children begins
         (returned 20 (codes ":1.0") (references ((codes ":1.7", codes "/r") ∷ []) ∷ []))).apps
         ≡ known (codes ":1.7") ∷ [] }
+    ensures well_known { (with_children begins
+        (returned 20 (codes ":1.0") (references ((codes "a.b", codes "/r") ∷ []) ∷ []))).apps ≡ [] }
     ensures registry { (with_children begins (returned 20 (codes ":1.0") (references [] ∷ []))).registry
         ≡ Some (codes ":1.0") }
     ensures error { (with_children begins

@@ -27,6 +27,7 @@ pub fn of_nodes()
 pub fn of_texts()
     ensures text { gives text_lines
         ≡ (codes "GetText", codes "s") ∷ (codes "SetCaretOffset", codes "b") ∷ (codes "GetCharacterAtOffset", codes "i")
+        ∷ (codes "GetStringAtOffset", codes "sii")
         ∷ (codes "GetNSelections", codes "i")
         ∷ (codes "GetSelection", codes "ii") ∷ (codes "AddSelection", codes "b") ∷ (codes "RemoveSelection", codes "b")
         ∷ (codes "SetSelection", codes "b") ∷ [] }

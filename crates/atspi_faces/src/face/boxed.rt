@@ -1,11 +1,15 @@
 //! A box of any face is a face, so that what is generic in its face takes a box too.
 
+ghost use Rattle.atspi_faces.specs.face.Boxes.{box_number};
+
 use crate::face::{Change, Face};
 use atspi_base::{Marks, NoMemory, Text};
 use atspi_tree_model::{FaceData, FaceKind};
 
 impl Face for Box<dyn Face> {
     ghost of_kind = { λ b. (Face-box b).of_kind b.value };
+
+    ghost number = { λ b. box_number b };
 
     ghost nodes = { λ b. (Face-box b).nodes b.value };
 

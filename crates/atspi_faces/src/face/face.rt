@@ -1,6 +1,6 @@
 //! The trait of the objects behind nodes.
 
-ghost use Rattle.std.specs.Prelude.{◌≡◌, ◌≤◌, None, OnOk, OnErr, IfOk, IfErr};
+ghost use Rattle.std.specs.Prelude.{◌≡◌, ◌≤◌, ℕ, None, OnOk, OnErr, IfOk, IfErr};
 ghost use Rattle.std.specs.Ordering.{nat_cmp};
 ghost use Rattle.std.specs.FinMap as map;
 ghost use Rattle.atspi_tree_model.specs.declared.contents.FaceKind.{FaceKind};
@@ -18,6 +18,9 @@ pub trait Face: Drop {
     /// The kind, which never changes.
     ghost of_kind: { Self → FaceKind };
 
+    /// Which one it is: of a box its number, which never changes, and 0 of any other.
+    ghost number: { Self → ℕ };
+
     /// The contents of each node that is here.
     ghost nodes: { Self → Nodes };
 
@@ -34,12 +37,14 @@ pub trait Face: Drop {
         ensures ok { OnOk result (nodes self.new ≡ map.insert (nodes self.old) node what) }
         ensures err { OnErr result (nodes self.new ≡ nodes self.old) }
         ensures returned { IfErr result (λ back. back ≡ what) }
-        ensures same_kind { of_kind self.new ≡ of_kind self.old };
+        ensures same_kind { of_kind self.new ≡ of_kind self.old }
+        ensures same_one { number self.new ≡ number self.old };
 
     /// Closes a node, if it is here.
     fn drop_node(&mut self, node: u32)
         ensures gone { nodes self.new ≡ map.remove (nodes self.old) node }
-        ensures same_kind { of_kind self.new ≡ of_kind self.old };
+        ensures same_kind { of_kind self.new ≡ of_kind self.old }
+        ensures same_one { number self.new ≡ number self.old };
 
     /// The least node here whose number is at least `from`.
     fn next_node(&self, from: u32) -> Option<u32>
@@ -72,5 +77,6 @@ pub trait Face: Drop {
         ensures ok { OnOk result (nodes self.new ≡ changed_at (nodes self.old) node what.now) }
         ensures err { OnErr result (nodes self.new ≡ nodes self.old) }
         ensures cause { OnErr result (TakesMemory what.now) }
-        ensures same_kind { of_kind self.new ≡ of_kind self.old };
+        ensures same_kind { of_kind self.new ≡ of_kind self.old }
+        ensures same_one { number self.new ≡ number self.old };
 }

@@ -3,17 +3,19 @@ use Rattle.std.proofs.Common.{◌≡◌, ℕ, Bool, true, false, Option, Some, N
 use Rattle.std.specs.Prelude.{ℤ, pos, negsuc, ◌*◌, ◌/◌, ◌%◌, nat_lt, List, [], ◌∷◌, codes, if◌then◌else◌}
 use Rattle.atspi_types.specs.Data.{Data, type_of}
 use Rattle.atspi_types.specs.Signatures.{type_bytes}
+use Rattle.atspi_units.specs.Pieces.{Piece}
 use Rattle.atspi_tree_model.specs.declared.edit.Edit.TheVariants as edits
 use Rattle.atspi_tree_model.specs.declared.step.Step.{Step}
 use Rattle.atspi_tree_model.specs.Row.{TreeRow}
 use Rattle.atspi_tree_model.specs.RowRules.{rows}
 use Rattle.atspi_tree_model.specs.Tree.{seat_of}
-use Rattle.atspi_protocol.specs.members.Arguments.{signed_at, text_at}
+use Rattle.atspi_protocol.specs.members.Arguments.{signed_at, text_at, unsigned_at}
 use Rattle.atspi_protocol.specs.members.Asked.{signature_of}
+use Rattle.atspi_protocol.specs.members.Granularity.{grain_of}
 use Rattle.atspi_protocol.specs.objects.Application.{Application}
 use Rattle.atspi_protocol.specs.objects.Values.{count_data, reference_or_null}
 use Rattle.atspi_protocol.specs.objects.Children.{at, children_of, selected_children, parent_data, index_data}
-use Rattle.atspi_protocol.specs.objects.Texts.{text_of, character_data, selection_data}
+use Rattle.atspi_protocol.specs.objects.Texts.{text_of, character_data, piece_data, piece_there, selection_data}
 use Rattle.atspi_protocol.specs.objects.Tables.{cell_at, cell_index, index_or_none, in_cells, columns_of, rows_of}
 use Rattle.atspi_protocol.specs.objects.Answers.{changes, name_data}
 use Rattle.atspi_protocol.specs.objects.Changes as changing
@@ -34,6 +36,10 @@ named (Some name) = refl
 character : (o : Option ℕ) → signature_of (character_data o ∷ []) ≡ codes "i"
 character None = refl
 character (Some c) = refl
+
+piece : (o : Option Piece) → signature_of (piece_data o) ≡ codes "sii"
+piece None = refl
+piece (Some found) = refl
 
 range : (o : Option (ℕ × ℕ)) → signature_of (selection_data o) ≡ codes "ii"
 range None = refl
@@ -100,60 +106,63 @@ signatures_are_kept = record {
                               (
                                 (λ a row body. character (at (signed_at 0 body) (text_of row).characters)),
                                 (
-                                  (λ a row body. refl),
+                                  (λ a row body. piece (piece_there (grain_of (unsigned_at 1 body)) (text_of row).characters (signed_at 0 body))),
                                   (
-                                    (λ a row body. range (at (signed_at 0 body) (text_of row).selections)),
+                                    (λ a row body. refl),
                                     (
-                                      (λ a row body. change a (changing.edited_between a (edits.Mark row.shape.node) (signed_at 0 body) (signed_at 1 body))),
+                                      (λ a row body. range (at (signed_at 0 body) (text_of row).selections)),
                                       (
-                                        (λ a row body. change a (changing.selection_removed row (signed_at 0 body))),
+                                        (λ a row body. change a (changing.edited_between a (edits.Mark row.shape.node) (signed_at 0 body) (signed_at 1 body))),
                                         (
-                                          (λ a row body. change a (changing.selection_set row (signed_at 0 body) (signed_at 1 body) (signed_at 2 body))),
+                                          (λ a row body. change a (changing.selection_removed row (signed_at 0 body))),
                                           (
-                                            (λ a row body. change a (changing.text_exchanged a row (text_at 0 body))),
+                                            (λ a row body. change a (changing.selection_set row (signed_at 0 body) (signed_at 1 body) (signed_at 2 body))),
                                             (
-                                              (λ a row body. change a (changing.edited_at a (λ place. edits.Put row.shape.node place (text_at 1 body)) (signed_at 0 body))),
+                                              (λ a row body. change a (changing.text_exchanged a row (text_at 0 body))),
                                               (
-                                                (λ a row body. change a (changing.edited_between a (edits.Cut row.shape.node) (signed_at 0 body) (signed_at 1 body))),
+                                                (λ a row body. change a (changing.edited_at a (λ place. edits.Put row.shape.node place (text_at 1 body)) (signed_at 0 body))),
                                                 (
-                                                  (λ a row body. to_node a (at (signed_at 0 body) (selected_children a row))),
+                                                  (λ a row body. change a (changing.edited_between a (edits.Cut row.shape.node) (signed_at 0 body) (signed_at 1 body))),
                                                   (
-                                                    (λ a row body. change a (changing.edited_at a (edits.Select row.shape.node) (signed_at 0 body))),
+                                                    (λ a row body. to_node a (at (signed_at 0 body) (selected_children a row))),
                                                     (
-                                                      (λ a row body. change a (changing.edited_at a (edits.Deselect row.shape.node) (signed_at 0 body))),
+                                                      (λ a row body. change a (changing.edited_at a (edits.Select row.shape.node) (signed_at 0 body))),
                                                       (
-                                                        (λ a row body. change a (changing.selected_child_off a row (signed_at 0 body))),
+                                                        (λ a row body. change a (changing.edited_at a (edits.Deselect row.shape.node) (signed_at 0 body))),
                                                         (
-                                                          (λ a row body. refl),
+                                                          (λ a row body. change a (changing.selected_child_off a row (signed_at 0 body))),
                                                           (
-                                                            (λ a row body. change a (changing.all_selected a row)),
+                                                            (λ a row body. refl),
                                                             (
-                                                              (λ a row body. refl),
+                                                              (λ a row body. change a (changing.all_selected a row)),
                                                               (
-                                                                (λ a row body. to_node a (cell_at a row (signed_at 0 body) (signed_at 1 body))),
+                                                                (λ a row body. refl),
                                                                 (
-                                                                  (λ a row body. index (cell_index a row (signed_at 0 body) (signed_at 1 body))),
+                                                                  (λ a row body. to_node a (cell_at a row (signed_at 0 body) (signed_at 1 body))),
                                                                   (
-                                                                    (λ a row body. in_cell a row (λ i columns. i / columns) (signed_at 0 body)),
+                                                                    (λ a row body. index (cell_index a row (signed_at 0 body) (signed_at 1 body))),
                                                                     (
-                                                                      (λ a row body. in_cell a row (λ i columns. i % columns) (signed_at 0 body)),
+                                                                      (λ a row body. in_cell a row (λ i columns. i / columns) (signed_at 0 body)),
                                                                       (
-                                                                        (λ a row body. refl),
+                                                                        (λ a row body. in_cell a row (λ i columns. i % columns) (signed_at 0 body)),
                                                                         (
                                                                           (λ a row body. refl),
                                                                           (
                                                                             (λ a row body. refl),
                                                                             (
-                                                                              (λ a row body. named (at (signed_at 0 body) row.contents.actions)),
+                                                                              (λ a row body. refl),
                                                                               (
-                                                                                (λ a row body. refl),
+                                                                                (λ a row body. named (at (signed_at 0 body) row.contents.actions)),
                                                                                 (
                                                                                   (λ a row body. refl),
                                                                                   (
                                                                                     (λ a row body. refl),
                                                                                     (
-                                                                                      (λ a row body. change a (changing.edited_at a (edits.Press row.shape.node) (signed_at 0 body))),
-                                                                                      tt,
+                                                                                      (λ a row body. refl),
+                                                                                      (
+                                                                                        (λ a row body. change a (changing.edited_at a (edits.Press row.shape.node) (signed_at 0 body))),
+                                                                                        tt,
+                                                                                      ),
                                                                                     ),
                                                                                   ),
                                                                                 ),

@@ -18,14 +18,16 @@ use Rattle.atspi_protocol.specs.declared.members.member.ObjectMember.{ObjectMemb
 use Rattle.atspi_protocol.specs.declared.members.member.ObjectMember.TheVariants as members
 use Rattle.atspi_protocol.specs.declared.members.property.ObjectProperty.{ObjectProperty}
 use Rattle.atspi_protocol.specs.declared.members.property.ObjectProperty.TheVariants as properties
-use Rattle.atspi_protocol.specs.members.Arguments.{signed_at, text_at}
+use Rattle.atspi_protocol.specs.members.Arguments.{signed_at, text_at, unsigned_at}
+use Rattle.atspi_protocol.specs.members.Granularity.{grain_of}
+use Rattle.atspi_units.specs.Pieces.{Piece}
 use Rattle.atspi_protocol.specs.members.Asked.{Asked, calls, gets, gets_all, sets, asked}
 use Rattle.atspi_protocol.specs.members.Table.{PropertyLine}
 use Rattle.atspi_protocol.specs.objects.Application.{Application}
 use Rattle.atspi_protocol.specs.objects.Places.{Place, node, whole_tree, node_at, offered_if_there, node_interfaces}
 use Rattle.atspi_protocol.specs.objects.Values.{count_data, in_variant, texts_data, node_reference, row_reference, reference_or_null, references_data, item_kind, item_data}
 use Rattle.atspi_protocol.specs.objects.Children.{at, children_of, selected_children, parent_data, index_data}
-use Rattle.atspi_protocol.specs.objects.Texts.{text_of, character_data, selection_data}
+use Rattle.atspi_protocol.specs.objects.Texts.{text_of, character_data, piece_there, piece_data, selection_data}
 use Rattle.atspi_protocol.specs.objects.Tables.{cell_at, cell_index, index_or_none, in_cells, columns_of, rows_of}
 use Rattle.atspi_protocol.specs.objects.Properties.{property_data}
 use Rattle.atspi_protocol.specs.objects.Changes as changing
@@ -113,6 +115,10 @@ range_typed : (o : Option (ℕ × ℕ)) → AreWellTyped (items_of (selection_da
 range_typed None = (tt, (tt, tt))
 range_typed (Some s) = (tt, (tt, tt))
 
+piece_typed : (o : Option Piece) → AreWellTyped (items_of (piece_data o))
+piece_typed None = (tt, (tt, (tt, tt)))
+piece_typed (Some piece) = (tt, (tt, (tt, tt)))
+
 cell_typed : (o : Option ℕ) → IsWellTyped (index_or_none o)
 cell_typed None = tt
 cell_typed (Some i) = tt
@@ -154,6 +160,7 @@ called_typed a row members.GetItems body = tt
 called_typed a row members.GetText body = (tt, tt)
 called_typed a row members.SetCaretOffset body = change_typed a (changing.edited_at a (edits.Caret row.shape.node) (signed_at 0 body))
 called_typed a row members.GetCharacterAtOffset body = (character_typed (at (signed_at 0 body) (text_of row).characters), tt)
+called_typed a row members.GetStringAtOffset body = piece_typed (piece_there (grain_of (unsigned_at 1 body)) (text_of row).characters (signed_at 0 body))
 called_typed a row members.GetNSelections body = (tt, tt)
 called_typed a row members.GetSelection body = range_typed (at (signed_at 0 body) (text_of row).selections)
 called_typed a row members.AddSelection body = change_typed a (changing.edited_between a (edits.Mark row.shape.node) (signed_at 0 body) (signed_at 1 body))
@@ -220,6 +227,7 @@ whole_typed a (calls members.GetItems body) = ((item_lawful, made item_kind item
 whole_typed a (calls members.GetText body) = tt
 whole_typed a (calls members.SetCaretOffset body) = tt
 whole_typed a (calls members.GetCharacterAtOffset body) = tt
+whole_typed a (calls members.GetStringAtOffset body) = tt
 whole_typed a (calls members.GetNSelections body) = tt
 whole_typed a (calls members.GetSelection body) = tt
 whole_typed a (calls members.AddSelection body) = tt

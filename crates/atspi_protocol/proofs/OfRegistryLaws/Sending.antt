@@ -254,6 +254,7 @@ member_fits members.GetItems s own caller args = only_fit s (fails (codes "Unkno
 member_fits members.GetText s own caller args = only_fit s (fails (codes "UnknownMethod")) tt
 member_fits members.SetCaretOffset s own caller args = only_fit s (fails (codes "UnknownMethod")) tt
 member_fits members.GetCharacterAtOffset s own caller args = only_fit s (fails (codes "UnknownMethod")) tt
+member_fits members.GetStringAtOffset s own caller args = only_fit s (fails (codes "UnknownMethod")) tt
 member_fits members.GetNSelections s own caller args = only_fit s (fails (codes "UnknownMethod")) tt
 member_fits members.GetSelection s own caller args = only_fit s (fails (codes "UnknownMethod")) tt
 member_fits members.AddSelection s own caller args = only_fit s (fails (codes "UnknownMethod")) tt

@@ -18,10 +18,16 @@ use Rattle.atspi_protocol.specs.following.ReaderState.{Followed, Done, speaks, t
 abbrev pub unasked : Reference → Followed
 unasked root = record { name = root.bus; root = root.path; view = None; reload = false; last = 0; refused = [] }
 
--- a reference makes its application known, where its bus name is one and no application with that name is known
+-- the name of a connection, which each message of it bears as its sender's
+abbrev pub is_connection : List ℕ → Bool
+is_connection name = is_bus_name name && is_unique_name name
+
+-- A reference makes its application known, where its bus name is that of a connection and no application with that name
+-- is known. By a well-known name nobody becomes known: no message bears one as its sender's, so no reply to what was
+-- asked would count.
 abbrev pub made_known : List Followed → Reference → List Followed
 made_known apps root =
-    if is_bus_name root.bus && not (list_any (is_named root.bus) apps) then apps ++ unasked root ∷ [] else apps
+    if is_connection root.bus && not (list_any (is_named root.bus) apps) then apps ++ unasked root ∷ [] else apps
 
 -- the references among values
 abbrev pub references_among : List Data → List Reference
@@ -87,7 +93,7 @@ closings (app ∷ apps) = closing_of app ++ closings apps
 
 -- an end is told where it is that of a connection
 abbrev pub end_of_connection : List ℕ → List Done
-end_of_connection name = if is_bus_name name && is_unique_name name then tells_end name ∷ [] else []
+end_of_connection name = if is_connection name then tells_end name ∷ [] else []
 
 -- the end of a name: its application is forgotten with all its rows
 abbrev pub with_end : ReaderState → Option (List ℕ) → ReaderState

@@ -5,14 +5,16 @@ use Rattle.atspi_script_lines.specs.declared.deed.Deed.{Deed}
 use Rattle.atspi_message.specs.Envelope.{Envelope}
 use Rattle.atspi_tree_model.specs.declared.view.Row.{Row}
 use Rattle.atspi_tree_model.specs.declared.news.News.{News}
-use Rattle.atspi_tree_model.specs.Forest.{Forest}
-use Rattle.atspi_tree_model.specs.News.{effect, marks_reload}
+use Rattle.atspi_tree_model.specs.declared.news.News.TheVariants.{Item as NewItem}
+use Rattle.atspi_tree_model.specs.Forest.{Forest, has}
+use Rattle.atspi_tree_model.specs.News.{effect, is_path, marks_reload}
+use Rattle.atspi_protocol.specs.declared.news.part.PartName.{PartName}
 use Rattle.atspi_speech.specs.Speech.{lines}
 use Rattle.atspi_protocol.specs.news.NewsOf.{news_of, or_empty}
 use Rattle.atspi_protocol.specs.declared.following.question.Question.{Question}
 use Rattle.atspi_protocol.specs.following.ReaderState.{Followed, Pending, Done, sends, speaks, ReaderState, is_named}
 use Rattle.atspi_protocol.specs.following.Calls.{asking, user_call}
-use Rattle.atspi_protocol.specs.following.Wishes.{wishes}
+use Rattle.atspi_protocol.specs.following.Wishes.{of_others, wishes}
 use Rattle.atspi_protocol.specs.following.Known.{takes_child, takes_end}
 use Rattle.atspi_protocol.specs.following.Replied.{changed, takes_reply}
 
@@ -22,6 +24,13 @@ noted serial app = record app { last = serial }
 
 abbrev pub notes : ReaderState → Envelope → ReaderState
 notes s e = record s { apps = changed (noted e.serial) (or_empty e.sender) s.apps }
+
+-- The parts that stay refused at a news, given the view before it: where the path of an item has no row, the parts of
+-- that path were refused of a row that is gone, and are refused no longer.
+abbrev pub still_refused : Forest Row → News → List (List ℕ × PartName) → List (List ℕ × PartName)
+still_refused view (NewItem item) refused =
+    if has (is_path item.object.path) view then refused else of_others item.object.path refused
+still_refused view news refused = refused
 
 -- what is spoken at news of an application that is held, and the view after them
 abbrev pub lines_at : News → Followed → List Done
@@ -36,8 +45,11 @@ folded news app = by app.view
   where
     by : Option (Forest Row) → Followed
     by None = app
-    by (Some view) =
-        record app { view = Some (effect app.root app.name view news); reload = app.reload || marks_reload view news }
+    by (Some view) = record app {
+      view = Some (effect app.root app.name view news);
+      reload = app.reload || marks_reload view news;
+      refused = still_refused view news app.refused;
+    }
 
 -- the news of a message's sender, if it is an application that is held
 abbrev pub takes_news : ReaderState → Envelope → ReaderState

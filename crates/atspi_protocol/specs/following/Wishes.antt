@@ -25,6 +25,10 @@ same_part one other = false
 abbrev pub is_refused : List (List ℕ × PartName) → List ℕ → PartName → Bool
 is_refused refused path part = list_any (λ (r : List ℕ × PartName). bytes_eq r.0 path && same_part r.1 part) refused
 
+-- those that were refused of the rows with other paths
+abbrev pub of_others : List ℕ → List (List ℕ × PartName) → List (List ℕ × PartName)
+of_others path refused = filter (λ (r : List ℕ × PartName). not (bytes_eq r.0 path)) refused
+
 -- a part that is there and not known
 abbrev pub text_is_unknown : Part → Bool
 text_is_unknown Unknown = true

@@ -2,7 +2,7 @@
 -- or 0.
 use Rattle.std.specs.Prelude.{ℕ, ℤ, pos, List, [], Option, None, Some, slice_get}
 use Rattle.std.specs.Int.{w32, cast_signed, cast_unsigned}
-use Rattle.atspi_types.specs.Kinds.{i32}
+use Rattle.atspi_types.specs.Kinds.{i32, u32}
 use Rattle.atspi_types.specs.Data.{Data, number_data, text_data, variant_data}
 
 -- a text's characters
@@ -20,6 +20,14 @@ signed_in _ = pos 0
 
 abbrev pub signed_at : ℕ → List Data → ℤ
 signed_at n body = signed_in (slice_get body n)
+
+-- one without a sign
+abbrev pub unsigned_in : Option Data → ℕ
+unsigned_in (Some (number_data u32 n)) = n
+unsigned_in _ = 0
+
+abbrev pub unsigned_at : ℕ → List Data → ℕ
+unsigned_at n body = unsigned_in (slice_get body n)
 
 -- the value in a variant
 abbrev pub value_in : Option Data → Option Data

@@ -6,11 +6,13 @@ use Rattle.std.specs.Prelude.{codes, bytes_eq, if◌then◌else◌, Result, Ok, 
 use Rattle.atspi_types.specs.Data.{Data, items_of, types_of, type_of}
 use Rattle.atspi_types.specs.Signatures.{signature_bytes, type_bytes}
 use Rattle.atspi_protocol.specs.declared.members.member.ObjectMember.{ObjectMember}
-use Rattle.atspi_protocol.specs.declared.members.member.ObjectMember.TheVariants.{Get, GetAll, Set}
+use Rattle.atspi_protocol.specs.declared.members.member.ObjectMember.TheVariants.{Get, GetAll, GetStringAtOffset, Set}
 use Rattle.atspi_protocol.specs.declared.members.property.ObjectProperty.{ObjectProperty}
 use Rattle.atspi_protocol.specs.members.Table.{MemberLine, PropertyLine}
 use Rattle.atspi_protocol.specs.members.Objects.{Object, is_among}
-use Rattle.atspi_protocol.specs.members.Arguments.{text_at, value_at}
+use Rattle.atspi_protocol.specs.members.Arguments.{text_at, unsigned_at, value_at}
+use Rattle.atspi_protocol.specs.members.Granularity.{grain_of}
+use Rattle.atspi_units.specs.declared.grain.Grain.{Grain}
 
 -- a member with its arguments; a property, all those of an interface, or another value for one
 pub data Asked : Type 0 where
@@ -91,12 +93,18 @@ set_to value l = if l.is_settable then typed value else Err (codes "PropertyRead
     typed (Some d) = if bytes_eq (type_bytes (type_of d)) l.type then Ok (sets l.property d)
         else Err (codes "InvalidArgs")
 
+-- the pieces of a text are asked for, if the number says which
+abbrev pub pieces_asked : List Data → Option Grain → Result Asked (List ℕ)
+pieces_asked body None = Err (codes "InvalidArgs")
+pieces_asked body (Some grain) = Ok (calls GetStringAtOffset body)
+
 -- what a member asks for, with its arguments
 abbrev pub asked_by : Object → List Data → ObjectMember → Result Asked (List ℕ)
 asked_by o body Get =
     and_then (λ (l : PropertyLine). Ok (gets l.property)) (property_of o (text_at 0 body) (text_at 1 body))
 asked_by o body GetAll = and_then (λ ls. Ok (gets_all ls)) (properties_of o (text_at 0 body))
 asked_by o body Set = and_then (set_to (value_at 2 body)) (property_of o (text_at 0 body) (text_at 1 body))
+asked_by o body GetStringAtOffset = pieces_asked body (grain_of (unsigned_at 1 body))
 asked_by o body member = Ok (calls member body)
 
 -- what a call asks of the object at its path, if there is one

@@ -62,6 +62,7 @@ text_lines =
     line names.text (codes "GetText") (codes "ii") (codes "s") members.GetText
     ∷ line names.text (codes "SetCaretOffset") (codes "i") (codes "b") members.SetCaretOffset
     ∷ line names.text (codes "GetCharacterAtOffset") (codes "i") (codes "i") members.GetCharacterAtOffset
+    ∷ line names.text (codes "GetStringAtOffset") (codes "iu") (codes "sii") members.GetStringAtOffset
     ∷ line names.text (codes "GetNSelections") nothing (codes "i") members.GetNSelections
     ∷ line names.text (codes "GetSelection") (codes "i") (codes "ii") members.GetSelection
     ∷ line names.text (codes "AddSelection") (codes "ii") (codes "b") members.AddSelection

@@ -18,7 +18,8 @@ use Rattle.atspi_protocol.specs.declared.members.member.ObjectMember.TheVariants
 use Rattle.atspi_protocol.specs.declared.members.member.ObjectMember.TheVariants.{GetAttributes, GetApplication}
 use Rattle.atspi_protocol.specs.declared.members.member.ObjectMember.TheVariants.{GetInterfaces, GetLocale, GetItems}
 use Rattle.atspi_protocol.specs.declared.members.member.ObjectMember.TheVariants.{GetText, SetCaretOffset}
-use Rattle.atspi_protocol.specs.declared.members.member.ObjectMember.TheVariants.{GetCharacterAtOffset, GetNSelections}
+use Rattle.atspi_protocol.specs.declared.members.member.ObjectMember.TheVariants.{GetCharacterAtOffset, GetStringAtOffset}
+use Rattle.atspi_protocol.specs.declared.members.member.ObjectMember.TheVariants.{GetNSelections}
 use Rattle.atspi_protocol.specs.declared.members.member.ObjectMember.TheVariants.{GetSelection, AddSelection}
 use Rattle.atspi_protocol.specs.declared.members.member.ObjectMember.TheVariants.{RemoveSelection, SetSelection}
 use Rattle.atspi_protocol.specs.declared.members.member.ObjectMember.TheVariants.{SetTextContents, InsertText}
@@ -32,7 +33,8 @@ use Rattle.atspi_protocol.specs.declared.members.member.ObjectMember.TheVariants
 use Rattle.atspi_protocol.specs.declared.members.member.ObjectMember.TheVariants.{IsRowSelected, IsSelected, GetName}
 use Rattle.atspi_protocol.specs.declared.members.member.ObjectMember.TheVariants.{GetDescription, GetKeyBinding}
 use Rattle.atspi_protocol.specs.declared.members.member.ObjectMember.TheVariants.{GetActions, DoAction, Ping}
-use Rattle.atspi_protocol.specs.members.Arguments.{text_at, signed_at, signed_in}
+use Rattle.atspi_protocol.specs.members.Arguments.{text_at, signed_at, signed_in, unsigned_at}
+use Rattle.atspi_protocol.specs.members.Granularity.{grain_of}
 use Rattle.atspi_protocol.specs.members.Asked.{Asked, calls, gets, gets_all, sets, asked}
 use Rattle.atspi_protocol.specs.objects.Application.{Application}
 use Rattle.atspi_protocol.specs.objects.Values.{count_data, in_variant, texts_data, node_reference, reference_or_null}
@@ -40,7 +42,8 @@ use Rattle.atspi_protocol.specs.objects.Values.{references_data, role_name, word
 use Rattle.atspi_protocol.specs.objects.Places.{Place, node, whole_tree, place_at, offered_if_there, node_interfaces}
 use Rattle.atspi_protocol.specs.objects.Children.{at, children_of, selected_children, is_there_selected, index_data}
 use Rattle.atspi_protocol.specs.objects.Children.{relations_data}
-use Rattle.atspi_protocol.specs.objects.Texts.{text_of, part_of, character_data, selection_data}
+use Rattle.atspi_protocol.specs.objects.Texts.{text_of, part_of, character_data, piece_there, piece_data}
+use Rattle.atspi_protocol.specs.objects.Texts.{selection_data}
 use Rattle.atspi_protocol.specs.objects.Tables.{cell_index, cell_at, index_or_none, in_cells, is_row_selected}
 use Rattle.atspi_protocol.specs.objects.Tables.{selected_rows}
 use Rattle.atspi_protocol.specs.objects.Properties.{property_data, properties_data}
@@ -100,6 +103,8 @@ called a row GetLocale body = tells a (text_data (codes "C"))
 called a row GetText body = tells a (text_data (part_of (text_of row).characters (signed_at 0 body) (signed_at 1 body)))
 called a row SetCaretOffset body = changes a (edited_at a (Caret row.shape.node) (signed_at 0 body))
 called a row GetCharacterAtOffset body = tells a (character_data (at (signed_at 0 body) (text_of row).characters))
+called a row GetStringAtOffset body =
+    tells_all a (piece_data (piece_there (grain_of (unsigned_at 1 body)) (text_of row).characters (signed_at 0 body)))
 called a row GetNSelections body = tells a (count_data (length (text_of row).selections))
 called a row GetSelection body = tells_all a (selection_data (at (signed_at 0 body) (text_of row).selections))
 called a row AddSelection body =

@@ -1,7 +1,10 @@
 -- The text of a node, and parts of it; places count characters from 0.
 use Rattle.std.specs.Prelude.{ℕ, ℤ, pos, negsuc, ◌-◌, nat_le, List, [], ◌∷◌, length, take, drop, Option, None, Some}
 use Rattle.std.specs.Prelude.{if◌then◌else◌}
-use Rattle.atspi_types.specs.Data.{Data}
+use Rattle.atspi_types.specs.Data.{Data, text_data}
+use Rattle.atspi_units.specs.Pieces.{Piece, piece_at}
+use Rattle.atspi_units.specs.Units.{units}
+use Rattle.atspi_units.specs.declared.grain.Grain.{Grain}
 use Rattle.atspi_tree_model.specs.Row.{TextContents, TreeRow}
 use Rattle.atspi_protocol.specs.members.Arguments.{int}
 use Rattle.atspi_protocol.specs.objects.Values.{count_data}
@@ -31,6 +34,16 @@ part_of characters start end = let from = start_at start in take (end_at end - f
 abbrev pub character_data : Option ℕ → Data
 character_data None = count_data 0
 character_data (Some c) = count_data c
+
+-- the piece of a text that holds the character at a place, if there is one
+abbrev pub piece_there : Option Grain → List ℕ → ℤ → Option Piece
+piece_there (Some grain) characters (pos n) = piece_at (units grain characters) n
+piece_there _ characters place = None
+
+-- its characters, where it starts and where the next one does; no characters, and -1 twice, where there is none
+abbrev pub piece_data : Option Piece → List Data
+piece_data None = text_data [] ∷ int (negsuc 0) ∷ int (negsuc 0) ∷ []
+piece_data (Some piece) = text_data piece.characters ∷ count_data piece.start ∷ count_data piece.end ∷ []
 
 -- the ends of a selection, -1 where there is none
 abbrev pub selection_data : Option (ℕ × ℕ) → List Data

@@ -24,6 +24,7 @@ pub enum ObjectMember {
     GetText,
     SetCaretOffset,
     GetCharacterAtOffset,
+    GetStringAtOffset,
     GetNSelections,
     GetSelection,
     AddSelection,

@@ -36,6 +36,7 @@ fn ask_of(name: &str) -> Option<Ask> {
         "GetNSelections" => Some(Ask::Call(ObjectMember::GetNSelections)),
         "GetChildAtIndex" => Some(Ask::Call(ObjectMember::GetChildAtIndex)),
         "GetText" => Some(Ask::Call(ObjectMember::GetText)),
+        "GetStringAtOffset" => Some(Ask::Call(ObjectMember::GetStringAtOffset)),
         "GetItems" => Some(Ask::Call(ObjectMember::GetItems)),
         "Name" => Some(Ask::Get(ObjectProperty::Name)),
         "CaretOffset" => Some(Ask::Get(ObjectProperty::CaretOffset)),
@@ -78,7 +79,13 @@ node - GetText => no arguments
 node - Get => no arguments
 node - GetLocale => no method
 node - InsertText => no method
-node - GetStringAtOffset => no method
+node - GetStringAtOffset => no arguments
+node - GetTextBeforeOffset => no method
+node - GetStringAtOffset|iu|i=-1|u=0 => GetStringAtOffset
+node - GetStringAtOffset|iu|i=0|u=4 => GetStringAtOffset
+node - GetStringAtOffset|iu|i=0|u=2 => no arguments
+node - GetStringAtOffset|iu|i=0|u=5 => no arguments
+node - GetStringAtOffset|ii|i=0|i=1 => no arguments
 node - GetItems => no method
 node - Embed => no method
 node org.a11y.atspi.Accessible GetChildAtIndex|i|i=-2147483648 => GetChildAtIndex

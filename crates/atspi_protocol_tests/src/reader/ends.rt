@@ -35,6 +35,7 @@ signal 33 org.a11y.atspi.Registry root Event.Object ChildrenChanged s=add i=0 i=
 signal 34 - root Event.Object ChildrenChanged s=add i=0 i=0 v(so)=:1.7@/r a{sv}= -> -
 signal 35 :1.0 root Event.Object ChildrenChanged s=remove i=0 i=0 v(so)=:1.7@/r a{sv}= -> -
 signal 36 :1.0 root Event.Object ChildrenChanged s=add i=0 i=0 v(so)=none@/r a{sv}= -> -
+signal 36 :1.0 root Event.Object ChildrenChanged s=add i=0 i=0 v(so)=a.b@/r a{sv}= -> -
 signal 37 :1.0 root Event.Object ChildrenChanged s=add i=0 i=0 v=:1.7 a{sv}= -> -
 signal 38 :1.0 root Event.Object PropertyChange s=add i=0 i=0 v(so)=:1.7@/r a{sv}= -> -
 signal 39 :1.0 root Cache ChildrenChanged s=add i=0 i=0 v(so)=:1.7@/r a{sv}= -> -

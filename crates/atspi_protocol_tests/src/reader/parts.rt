@@ -39,6 +39,17 @@ return 31 :1.7 20 s=hi s=ho -> 21 Get :1.7 /b org.a11y.atspi.Text
 return 32 :1.7 21 v=1 -> 22 Get :1.7 /b org.a11y.atspi.Table
 return 33 :1.7 22 vi=-1 -> -
 rows :1.7 -> /r Pad - - -, /b</r@0 Grid ? ? ?
+# 10 What was refused is of a row: an item for its path asks anew where there is no row of it, and not where there is one
+return 10 :1.0 10 a(so)=:1.7@/r -> 11 GetItems :1.7 /org/a11y/atspi/cache
+return 20 :1.7 11 items=:1.7;/r,/,-1,-,75,Pad;/b,/r,0,t,7,B -> 12 GetText :1.7 /b
+error 21 :1.7 12 a.b -> 13 Get :1.7 /b org.a11y.atspi.Text
+error 22 :1.7 13 a.b -> -
+signal 23 :1.7 cache Cache AddAccessible item=:1.7;/b,/r,0,t,7,B -> -
+signal 24 :1.7 cache Cache RemoveAccessible (so)=:1.7@/b -> -
+signal 25 :1.7 cache Cache AddAccessible item=:1.7;/b,/r,0,t,7,B -> 14 GetText :1.7 /b
+error 26 :1.7 14 a.b -> 15 Get :1.7 /b org.a11y.atspi.Text
+error 27 :1.7 15 a.b -> -
+rows :1.7 -> /r Pad - - -, /b</r@0 B ? ? -
 # 10 Items that are refused, or of another form, make an application unknown; the next one is asked
 return 10 :1.0 10 a(so)=:1.6@/r;:1.7@/r;:1.8@/r;:1.9@/r -> 11 GetItems :1.6 /org/a11y/atspi/cache
 error 20 bus 11 a.b -> 12 GetItems :1.7 /org/a11y/atspi/cache

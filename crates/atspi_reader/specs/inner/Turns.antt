@@ -2,7 +2,6 @@
 use Rattle.std.specs.Prelude.{◌≡◌, ◌≤◌, ℕ, length, take, Bool, true, false, not, List, [], ◌∷◌, ◌++◌, filter, Option}
 use Rattle.std.specs.Prelude.{Some, None, if◌then◌else◌}
 use Rattle.std.specs.List.{list_any, fold}
-use Rattle.atspi_base.specs.valid_names.Names.{is_bus_name}
 use Rattle.atspi_message.specs.Envelope.{Envelope}
 use Rattle.atspi_tree_model.specs.declared.news.News.{News}
 use Rattle.atspi_tree_model.specs.declared.news.Reference.{Reference}
@@ -10,7 +9,7 @@ use Rattle.atspi_protocol.specs.news.Replies.{elements_of}
 use Rattle.atspi_protocol.specs.declared.news.part.PartName.{PartName}
 use Rattle.atspi_protocol.specs.declared.following.question.Question.{Question}
 use Rattle.atspi_protocol.specs.following.ReaderState.{Followed, Pending, Done, ReaderState, is_named}
-use Rattle.atspi_protocol.specs.following.Known.{unasked, made_known, references_among}
+use Rattle.atspi_protocol.specs.following.Known.{is_connection, unasked, made_known, references_among}
 use Rattle.atspi_protocol.specs.following.Replied.{changed, ends_call, told_part, refused_part}
 use Rattle.atspi_protocol.specs.following.Takes.{notes}
 
@@ -50,9 +49,9 @@ abbrev pub is_answer : Option Pending → Envelope → Bool
 is_answer None e = false
 is_answer (Some p) e = ends_call p e
 
--- the application that a reference names, where its bus name is one
+-- the application that a reference names, where its bus name is that of a connection
 abbrev pub app_in : Reference → Option Followed
-app_in root = if is_bus_name root.bus then Some (unasked root) else None
+app_in root = if is_connection root.bus then Some (unasked root) else None
 
 -- an application as a list, and that it is new to some: none has its name, and it is not held
 abbrev pub listed : Option Followed → List Followed

@@ -5,6 +5,7 @@ ghost use Rattle.atspi_message_in_place.specs.View.{envelope_at};
 ghost use Rattle.atspi_protocol.specs.registering.RegistryState.{RegistryState};
 ghost use Rattle.atspi_protocol.specs.registering.Answers.{object_at};
 ghost use Rattle.atspi_protocol.specs.registering.Steps.{answer_to};
+ghost use Rattle.atspi_protocol.specs.declared.members.member.ObjectMember.TheVariants.{GetStringAtOffset};
 ghost use Rattle.atspi_protocol.specs.members.Asked as asked;
 ghost use Rattle.atspi_registry.specs.calls.inner.Object.{object_of};
 ghost use Rattle.atspi_registry.specs.calls.Ask.{ask_answer, IsLent, IsProperty, AreProperties, refusal_of};
@@ -68,12 +69,13 @@ fn refusal(property: Result<Ask, CallError>) -> CallError
     }
 }
 
-/// What a call of a member asks.
+/// What a call of a member asks that an object of the registry has: none has a text.
 fn of_member<'a>(
     object: RegistryObject,
     member: ObjectMember,
     m: &MessageRef<'a>,
 ) -> Result<Ask<'a>, CallError>
+    requires textless { member ≢ GetStringAtOffset }
     ensures asked { (s : RegistryState) (own caller : List ℕ) → caller ≢ []
         → answer_to s own caller (asked.asked_by (object_of object) (envelope_at m.now).body member)
         ≡ ask_answer result s own caller }

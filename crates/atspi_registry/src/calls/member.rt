@@ -1,7 +1,8 @@
 //! Which member of an object a call asks for.
 
-ghost use Rattle.std.specs.Prelude.{◌≡◌};
+ghost use Rattle.std.specs.Prelude.{◌≡◌, ◌≢◌, IfOk, IfSome};
 ghost use Rattle.atspi_message_in_place.specs.View.{bytes_of, envelope_at};
+ghost use Rattle.atspi_protocol.specs.declared.members.member.ObjectMember.TheVariants.{GetStringAtOffset};
 ghost use Rattle.atspi_protocol.specs.members.Asked as asked;
 ghost use Rattle.atspi_registry.specs.calls.inner.Object as objects;
 ghost use Rattle.atspi_registry.specs.calls.inner.Object.{object_of, lines_of, as_word};
@@ -27,7 +28,9 @@ fn is_named(interface: Option<&str>, member: Option<&str>, of: &str, name: &str)
 
 /// The member of the object for listeners.
 fn of_listeners(interface: Option<&str>, member: Option<&str>) -> Option<ObjectMember>
-    ensures { result ≡ objects.member_in (bytes_of interface.entry) (bytes_of member.entry) (lines_of Listeners) }
+    ensures member { result
+        ≡ objects.member_in (bytes_of interface.entry) (bytes_of member.entry) (lines_of Listeners) }
+    ensures textless { IfSome result (λ found. found ≢ GetStringAtOffset) }
 {
     if is_named(interface, member, REGISTRY, "RegisterEvent") {
         Some(ObjectMember::RegisterEvent)
@@ -50,7 +53,8 @@ fn of_listeners(interface: Option<&str>, member: Option<&str>) -> Option<ObjectM
 
 /// The member of the root.
 fn of_root(interface: Option<&str>, member: Option<&str>) -> Option<ObjectMember>
-    ensures { result ≡ objects.member_in (bytes_of interface.entry) (bytes_of member.entry) (lines_of Root) }
+    ensures member { result ≡ objects.member_in (bytes_of interface.entry) (bytes_of member.entry) (lines_of Root) }
+    ensures textless { IfSome result (λ found. found ≢ GetStringAtOffset) }
 {
     if is_named(interface, member, ACCESSIBLE, "GetChildAtIndex") {
         Some(ObjectMember::GetChildAtIndex)
@@ -120,7 +124,8 @@ fn found(
     interface: Option<&str>,
     member: Option<&str>,
 ) -> Option<ObjectMember>
-    ensures { result ≡ objects.member_in (bytes_of interface.entry) (bytes_of member.entry) (lines_of object) }
+    ensures member { result ≡ objects.member_in (bytes_of interface.entry) (bytes_of member.entry) (lines_of object) }
+    ensures textless { IfSome result (λ found. found ≢ GetStringAtOffset) }
 {
     match object {
         RegistryObject::Listeners => of_listeners(interface, member),
@@ -131,8 +136,9 @@ fn found(
 /// The member of the object that a call asks for, or the error that it gets: looked for first by interface, then by
 /// member, then by arguments.
 pub fn member_of(object: RegistryObject, m: &MessageRef) -> Result<ObjectMember, CallError>
-    ensures { asked.member_of (object_of object) (envelope_at m.now).interface (envelope_at m.now).member
+    ensures member { asked.member_of (object_of object) (envelope_at m.now).interface (envelope_at m.now).member
         (envelope_at m.now).body ≡ as_word result }
+    ensures textless { IfOk result (λ member. member ≢ GetStringAtOffset) }
 {
     if !has_named(object, m.interface) {
         return Err(CallError::UnknownInterface);

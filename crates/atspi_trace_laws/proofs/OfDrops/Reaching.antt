@@ -24,7 +24,7 @@ use Rattle.atspi_match.specs.routing.Answers.{fails, returns, Answer, only, answ
 use Rattle.atspi_match.specs.routing.Routing.{one_or_none, receivers, is_for_bus}
 use Rattle.atspi_match.specs.routing.Steps.{Move, says, delivers, closes, BusStep, handed, speaks, called, undeliverable, is_unowned, calls_after_all, is_hello, greets, farewell, bus_takes, bus_leaves}
 use Rattle.atspi_match.specs.routing.Queues as queues
-use Rattle.atspi_match.specs.routing.Queues.{Waiting, Bus, is_due, doomed, queue_of, without_queue}
+use Rattle.atspi_match.specs.routing.Queues.{Waiting, Bus, is_due, doomed, queue_of, without_queue, told_length}
 use Rattle.atspi_trace.specs.Rules.{rule_in}
 use Rattle.atspi_trace.specs.World.{Said}
 use Rattle.atspi_trace.specs.Ends.{with_end, taken_up}
@@ -231,9 +231,9 @@ module _ (P : ℕ → Type 0) where
   queued_below : (quota : ℕ) (w : Waiting) (conn : ℕ) (bytes : List ℕ) → P conn → AllByRecursion DueBelow w.due → AllByRecursion DueBelow (queues.queued quota w conn bytes).due
   queued_below quota w conn bytes h a = by (is_due conn w.due) (nat_lt quota (length (queue_of w.queues conn) + length bytes))
     where
-      by : (b c : Bool) → AllByRecursion DueBelow (if b then w else if c then doomed w conn (Quota (length (queue_of w.queues conn)) (length bytes)) else record w { queues = finmap.insert w.queues conn (queue_of w.queues conn ++ bytes) }).due
+      by : (b c : Bool) → AllByRecursion DueBelow (if b then w else if c then doomed w conn (Quota (length (queue_of w.queues conn)) (told_length bytes)) else record w { queues = finmap.insert w.queues conn (queue_of w.queues conn ++ bytes) }).due
       by true c = a
-      by false true = doomed_below w conn (Quota (length (queue_of w.queues conn)) (length bytes)) h a
+      by false true = doomed_below w conn (Quota (length (queue_of w.queues conn)) (told_length bytes)) h a
       by false false = a
 
   moved_below : (quota : ℕ) (w : Waiting) (move : Move) → MoveBelow move → AllByRecursion DueBelow w.due → AllByRecursion DueBelow (queues.moved quota w move).due

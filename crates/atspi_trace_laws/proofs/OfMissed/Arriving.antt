@@ -15,7 +15,7 @@ use Rattle.atspi_match.specs.declared.routing.closing.Why.TheVariants.{NotHello,
 use Rattle.atspi_match.specs.routing.Routing.{receivers}
 use Rattle.atspi_match.specs.routing.Steps.{Move, says, delivers, closes, BusStep, handed, bus_takes, bus_leaves}
 use Rattle.atspi_match.specs.routing.Queues as queues
-use Rattle.atspi_match.specs.routing.Queues.{Waiting, Bus, or_nothing, queue_of, is_due, doomed, without_queue}
+use Rattle.atspi_match.specs.routing.Queues.{Waiting, Bus, or_nothing, queue_of, is_due, doomed, without_queue, told_length}
 use Rattle.atspi_trace.specs.Rules.{rule_in}
 use Rattle.atspi_trace.specs.World.{here, Said, Letter, End}
 use Rattle.atspi_trace.specs.Ends.{is_here, end_at, with_end, put_down, taken_up, leaves}
@@ -108,9 +108,9 @@ queued_keeps : (quota : ℕ) (w : Waiting) (k conn : ℕ) (bytes : List ℕ) →
 queued_keeps quota w k conn bytes h = by (is_due conn w.due) (nat_lt quota (length (queue_of w.queues conn) + length bytes))
   where
     by : (b c : Bool)
-        → is_due k (if b then w else if c then doomed w conn (Quota (length (queue_of w.queues conn)) (length bytes)) else record w { queues = finmap.insert w.queues conn (queue_of w.queues conn ++ bytes) }).due ≡ true
+        → is_due k (if b then w else if c then doomed w conn (Quota (length (queue_of w.queues conn)) (told_length bytes)) else record w { queues = finmap.insert w.queues conn (queue_of w.queues conn ++ bytes) }).due ≡ true
     by true c = h
-    by false true = doomed_keeps w k conn (Quota (length (queue_of w.queues conn)) (length bytes)) h
+    by false true = doomed_keeps w k conn (Quota (length (queue_of w.queues conn)) (told_length bytes)) h
     by false false = h
 
 pub moved_keeps : (quota : ℕ) (w : Waiting) (k : ℕ) (move : Move) → is_due k w.due ≡ true → is_due k (queues.moved quota w move).due ≡ true
@@ -199,7 +199,7 @@ module _ (letter : Envelope → Letter) (quota : ℕ) where
       w = f.waiting
 
       full_ : Waiting
-      full_ = doomed w k (Quota (length (queue_of w.queues k)) (length (written m)))
+      full_ = doomed w k (Quota (length (queue_of w.queues k)) (told_length (written m)))
 
       more_ : Waiting
       more_ = record w { queues = finmap.insert w.queues k (queue_of w.queues k ++ written m) }
@@ -211,7 +211,7 @@ module _ (letter : Envelope → Letter) (quota : ℕ) where
       by : (due : Bool) → is_due k w.due ≡ due → (full : Bool)
           → Arrives k (letter m) (if grew k w (if due then w else if full then full_ else more_) then with_end k (put_down (letter m)) f.ends else f.ends) (if due then w else if full then full_ else more_)
       by true h full e there on = inr h
-      by false h true e there on = inr (doomed_now w k (Quota (length (queue_of w.queues k)) (length (written m))))
+      by false h true e there on = inr (doomed_now w k (Quota (length (queue_of w.queues k)) (told_length (written m))))
       by false h false e there on = inl (put (grew k w more_) (took_more w k m) e there)
 
   pub handed_arrives : (k : ℕ) (m : Envelope) (conns : List ℕ) (f : Filled) → IsIn k conns

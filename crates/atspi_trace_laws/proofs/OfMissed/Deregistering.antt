@@ -9,8 +9,10 @@ use Rattle.atspi_protocol.specs.declared.members.member.ObjectMember.{ObjectMemb
 use Rattle.atspi_protocol.specs.declared.members.member.ObjectMember.TheVariants as members
 use Rattle.atspi_protocol.specs.members.Table.{MemberLine, PropertyLine}
 use Rattle.atspi_protocol.specs.members.Objects.{Object, registry_object, registry_root}
-use Rattle.atspi_protocol.specs.members.Arguments.{text_at, value_at}
-use Rattle.atspi_protocol.specs.members.Asked.{Asked, calls, gets, gets_all, sets, and_then, first_or, is_text, is_text_if_there, has_interface, are_taken, member_of, properties_of, property_of, set_to, asked_by, asked}
+use Rattle.atspi_protocol.specs.members.Arguments.{text_at, unsigned_at, value_at}
+use Rattle.atspi_protocol.specs.members.Asked.{Asked, calls, gets, gets_all, sets, and_then, first_or, is_text, is_text_if_there, has_interface, are_taken, member_of, pieces_asked, properties_of, property_of, set_to, asked_by, asked}
+use Rattle.atspi_protocol.specs.members.Granularity.{grain_of}
+use Rattle.atspi_units.specs.declared.grain.Grain.{Grain}
 use Rattle.atspi_protocol.specs.registering.Answers.{object_at}
 use Rattle.atspi_trace_laws.proofs.OfOrder.Parties.{false_true}
 use Rattle.atspi_trace_laws.proofs.OfMissed.Telling.{and_left, and_right}
@@ -55,10 +57,15 @@ sets_says : (text : Option (List ℕ)) (value : Option Data) (r : Result Propert
 sets_says text value (Ok l) = set_says text value l
 sets_says text value (Err word) = tt
 
+pieces_say : (text : Option (List ℕ)) (body : List Data) (grain : Option Grain) → SaysSo text (pieces_asked body grain)
+pieces_say text body None = tt
+pieces_say text body (Some grain) = tt
+
 by_says : (text : Option (List ℕ)) (o : Object) (body : List Data) (member : ObjectMember) → MemberSays text member → SaysSo text (asked_by o body member)
 by_says text o body members.Get h = gets_says text (property_of o (text_at 0 body) (text_at 1 body))
 by_says text o body members.GetAll h = all_says text (properties_of o (text_at 0 body))
 by_says text o body members.Set h = sets_says text (value_at 2 body) (property_of o (text_at 0 body) (text_at 1 body))
+by_says text o body members.GetStringAtOffset h = pieces_say text body (grain_of (unsigned_at 1 body))
 by_says text o body members.DeregisterEvent h = h
 by_says text o body members.Embed h = h
 by_says text o body other h = tt

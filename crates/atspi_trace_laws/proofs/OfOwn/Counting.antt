@@ -21,7 +21,7 @@ use Rattle.atspi_match.specs.routing.BusState.{BusState, unique_of, calls_withou
 use Rattle.atspi_match.specs.routing.OwnMessages.{numbered}
 use Rattle.atspi_match.specs.routing.Steps.{Move, says, delivers, closes, BusStep, handed, said, speaks, farewell, bus_takes, bus_leaves}
 use Rattle.atspi_match.specs.routing.Queues as queues
-use Rattle.atspi_match.specs.routing.Queues.{Waiting, queue_of, is_due, doomed, own_of, without_queue}
+use Rattle.atspi_match.specs.routing.Queues.{Waiting, queue_of, is_due, doomed, own_of, without_queue, told_length}
 use Rattle.atspi_match.specs.routing.Routing.{receivers}
 use Rattle.atspi_trace.specs.Rules.{rule_in}
 use Rattle.atspi_trace.specs.World.{Said, Letter}
@@ -168,9 +168,9 @@ doomed_fine w conn why f a = by (is_due conn w.due)
 queued_fine : (quota : ℕ) (w : Waiting) (conn : ℕ) (bytes : List ℕ) → AllByRecursion DueFine w.due → AllByRecursion DueFine (queues.queued quota w conn bytes).due
 queued_fine quota w conn bytes a = by (is_due conn w.due) (nat_lt quota (length (queue_of w.queues conn) + length bytes))
   where
-    by : (b c : Bool) → AllByRecursion DueFine (if b then w else if c then doomed w conn (Quota (length (queue_of w.queues conn)) (length bytes)) else record w { queues = finmap.insert w.queues conn (queue_of w.queues conn ++ bytes) }).due
+    by : (b c : Bool) → AllByRecursion DueFine (if b then w else if c then doomed w conn (Quota (length (queue_of w.queues conn)) (told_length bytes)) else record w { queues = finmap.insert w.queues conn (queue_of w.queues conn ++ bytes) }).due
     by true c = a
-    by false true = doomed_fine w conn (Quota (length (queue_of w.queues conn)) (length bytes)) (λ h. refl) a
+    by false true = doomed_fine w conn (Quota (length (queue_of w.queues conn)) (told_length bytes)) (λ h. refl) a
     by false false = a
 
 -- moves that do not close the first

@@ -24,7 +24,7 @@ use Rattle.atspi_match.specs.routing.Answers.{returns}
 use Rattle.atspi_match.specs.routing.Routing.{receivers}
 use Rattle.atspi_match.specs.routing.Steps.{Move, says, delivers, closes, BusStep, handed, replies, is_hello, greets, farewell, bus_takes, bus_leaves}
 use Rattle.atspi_match.specs.routing.Queues as queues
-use Rattle.atspi_match.specs.routing.Queues.{Waiting, Bus, is_due, doomed, queue_of, without_queue}
+use Rattle.atspi_match.specs.routing.Queues.{Waiting, Bus, is_due, doomed, queue_of, without_queue, told_length}
 use Rattle.atspi_trace.specs.Rules.{rule_in}
 use Rattle.atspi_trace.specs.World.{Said, Letter, End}
 use Rattle.atspi_trace.specs.Ends.{end_at, with_end, put_down, taken_up, leaves}
@@ -51,9 +51,9 @@ doomed_room w conn why f a = by (is_due conn w.due)
 queued_room : (quota : ℕ) (w : Waiting) (conn : ℕ) (bytes : List ℕ) → AllByRecursion ForRoom w.due → AllByRecursion ForRoom (queues.queued quota w conn bytes).due
 queued_room quota w conn bytes a = by (is_due conn w.due) (nat_lt quota (length (queue_of w.queues conn) + length bytes))
   where
-    by : (b c : Bool) → AllByRecursion ForRoom (if b then w else if c then doomed w conn (Quota (length (queue_of w.queues conn)) (length bytes)) else record w { queues = finmap.insert w.queues conn (queue_of w.queues conn ++ bytes) }).due
+    by : (b c : Bool) → AllByRecursion ForRoom (if b then w else if c then doomed w conn (Quota (length (queue_of w.queues conn)) (told_length bytes)) else record w { queues = finmap.insert w.queues conn (queue_of w.queues conn ++ bytes) }).due
     by true c = a
-    by false true = doomed_room w conn (Quota (length (queue_of w.queues conn)) (length bytes)) refl a
+    by false true = doomed_room w conn (Quota (length (queue_of w.queues conn)) (told_length bytes)) refl a
     by false false = a
 
 abbrev NoClose : Move → Type 0

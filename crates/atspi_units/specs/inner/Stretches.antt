@@ -1,5 +1,6 @@
 -- The part of a window between two places where a unit surely ends.
-use Rattle.std.specs.Prelude.{◌≡◌, ℕ, ◌<◌, ◌≤◌, ◌⊎◌, true, List, [], ◌∷◌, ◌++◌, length, encode_utf8_all, Option, None, Some}
+use Rattle.std.specs.Prelude.{◌≡◌, ℕ, ◌<◌, ◌≤◌, ◌⊎◌, true, List, [], ◌∷◌, ◌++◌, length, encode_utf8_all, Option, None}
+use Rattle.std.specs.Prelude.{Some}
 use Rattle.atspi_units.specs.declared.grain.Grain.{Grain}
 use Rattle.atspi_units.specs.declared.window.Reaches.{Reaches}
 use Rattle.atspi_units.specs.declared.stretch.Place.{Place}

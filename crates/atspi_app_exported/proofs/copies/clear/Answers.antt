@@ -4,7 +4,7 @@ use Rattle.atspi_app_exported.proofs.Copied.{IsClear, clear_next, clear_end, sma
 use Rattle.atspi_app_exported.proofs.copies.clear.Goals as goal
 
 pub loop-node-init : goal.loop-node-init
-loop-node-init g c = record { clear = λ k h. absurd (omega arith); small = c.requires; kind = refl }
+loop-node-init g c = record { clear = λ k h. absurd (omega arith); small = c.requires; kind = refl; same_one = refl }
 
 pub returns-in_default-clause-empty : goal.returns-in_default-clause-empty
 returns-in_default-clause-empty g c = clear_end c.loop-node.at _ c.in_default.ensures c.loop-node.invariant.clear
@@ -23,4 +23,5 @@ loop-node-preserved g c =
       clear = subst (IsClear (c.in-Some.node + 1)) (sym c.drop_node.ensures.gone) (clear_next c.loop-node.at c.in-Some.node now c.in-Some.ensures c.loop-node.invariant.clear);
       small = subst AreSmall (sym c.drop_node.ensures.gone) (small_less now c.in-Some.node c.loop-node.invariant.small);
       kind = c.drop_node.ensures.same_kind ∙ c.loop-node.invariant.kind;
+      same_one = c.drop_node.ensures.same_one ∙ c.loop-node.invariant.same_one;
     }

@@ -8,6 +8,7 @@ invariant-loop-node g l = record {
   clear : IsClear l.at (g.F.Face.nodes l.face);
   small : AreSmall (g.F.Face.nodes l.face);
   kind : g.F.Face.of_kind l.face ≡ g.F.Face.of_kind l.fn.face;
+  same_one : g.F.Face.number l.face ≡ g.F.Face.number l.fn.face;
 }
 
 abbrev pub decreases-loop-node : goal.decreases-loop-node

@@ -3,7 +3,7 @@ use Rattle.atspi_app_exported.proofs.Copied.{copied_start, copied_next, copied_e
 use Rattle.atspi_app_exported.proofs.copies.copy_nodes.Goals as goal
 
 pub loop-node-init : goal.loop-node-init
-loop-node-init g c = record { copied = copied_start _ _ c.requires.empty; kind = refl }
+loop-node-init g c = record { copied = copied_start _ _ c.requires.empty; kind = refl; same_one = refl }
 
 pub copy_node-requires-clause-fresh : goal.copy_node-requires-clause-fresh
 copy_node-requires-clause-fresh g c = c.loop-node.invariant.copied.others c.in-Some.node c.in-Some.ensures.0
@@ -29,4 +29,5 @@ pub loop-node-preserved : goal.loop-node-preserved
 loop-node-preserved g c = record {
   copied = copied_next c.loop-node.at c.in-Some.node (g.F.Face.nodes c.args.from.now) _ _ c.in-Some.ensures c.loop-node.invariant.copied c.in-Ok.ensures.ok;
   kind = c.in-Ok.ensures.kind ∙ c.loop-node.invariant.kind;
+  same_one = c.in-Ok.ensures.same_one ∙ c.loop-node.invariant.same_one;
 }

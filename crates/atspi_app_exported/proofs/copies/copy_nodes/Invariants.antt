@@ -6,6 +6,7 @@ abbrev pub invariant-loop-node : goal.invariant-loop-node
 invariant-loop-node g l = record {
   copied : IsCopied l.at (g.F.Face.nodes l.from) (g.G.Face.nodes l.to);
   kind : g.G.Face.of_kind l.to ≡ g.G.Face.of_kind l.fn.to;
+  same_one : g.G.Face.number l.to ≡ g.G.Face.number l.fn.to;
 }
 
 abbrev pub decreases-loop-node : goal.decreases-loop-node

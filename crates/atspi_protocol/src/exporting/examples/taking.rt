@@ -29,8 +29,8 @@ pub fn edits()
           reply = None;
           destination = None;
           sender = None;
-          body = text_data (codes "accessible-name") ∷ int (pos 0) ∷ int (pos 0) ∷ variant_data text (text_data (codes "U"))
-              ∷ dictionary_data text variant (entries_of []) ∷ [];
+          body = text_data (codes "accessible-name") ∷ int (pos 0) ∷ int (pos 0)
+              ∷ variant_data text (text_data (codes "U")) ∷ dictionary_data text variant (entries_of []) ∷ [];
         }) ∷ [] }
     ensures insert { at_edit (ready (properties ∷ [])) (Edit.Insert 0 0 label) ≡ steps (Step.Add 1 0 0 label) ∷ [] }
     ensures insert_heard { brief (at_edit (ready (children ∷ [])) (Edit.Insert 0 0 label))

@@ -39,6 +39,8 @@ pub fn of_text()
     ensures set_caret_offset { meant text (codes "SetCaretOffset") one_int ≡ Ok ObjectMember.SetCaretOffset }
     ensures get_character_at_offset { meant text (codes "GetCharacterAtOffset") one_int
         ≡ Ok ObjectMember.GetCharacterAtOffset }
+    ensures get_string_at_offset { meant text (codes "GetStringAtOffset") (int (pos 0) ∷ number_data u32 1 ∷ [])
+        ≡ Ok ObjectMember.GetStringAtOffset }
     ensures get_n_selections { meant text (codes "GetNSelections") [] ≡ Ok ObjectMember.GetNSelections }
     ensures get_selection { meant text (codes "GetSelection") one_int ≡ Ok ObjectMember.GetSelection }
     ensures add_selection { meant text (codes "AddSelection") two_ints ≡ Ok ObjectMember.AddSelection }

@@ -35,12 +35,21 @@ pub fn in_order()
     ensures member { asked (Some label) (Some text) (Some (codes "GetName")) [] ≡ Err (codes "UnknownMethod") }
     ensures of_another { asked (Some label) (Some accessible) (Some (codes "GetText")) two_ints
         ≡ Err (codes "UnknownMethod") }
-    ensures units { asked (Some label) (Some text) (Some (codes "GetStringAtOffset"))
+    ensures before_offsets { asked (Some label) (Some text) (Some (codes "GetTextBeforeOffset"))
         (int (pos 0) ∷ number_data u32 0 ∷ []) ≡ Err (codes "UnknownMethod") }
     ensures none { asked (Some label) (Some text) (Some (codes "GetText")) [] ≡ Err (codes "InvalidArgs") }
     ensures few { asked (Some label) (Some text) (Some (codes "GetText")) one_int ≡ Err (codes "InvalidArgs") }
     ensures many { asked (Some label) (Some text) (Some (codes "GetNSelections")) one_int ≡ Err (codes "InvalidArgs") }
     ensures other { asked (Some label) (Some text) (Some (codes "GetText")) (int (pos 0) ∷ number_data u32 0 ∷ [])
+        ≡ Err (codes "InvalidArgs") }
+    ensures characters { asked (Some label) (Some text) (Some (codes "GetStringAtOffset"))
+        (int (pos 0) ∷ number_data u32 0 ∷ [])
+        ≡ Ok (calls ObjectMember.GetStringAtOffset (int (pos 0) ∷ number_data u32 0 ∷ [])) }
+    ensures sentences { asked (Some label) (Some text) (Some (codes "GetStringAtOffset"))
+        (int (pos 0) ∷ number_data u32 2 ∷ []) ≡ Err (codes "InvalidArgs") }
+    ensures no_pieces { asked (Some label) (Some text) (Some (codes "GetStringAtOffset"))
+        (int (pos 0) ∷ number_data u32 5 ∷ []) ≡ Err (codes "InvalidArgs") }
+    ensures signed_pieces { asked (Some label) (Some text) (Some (codes "GetStringAtOffset")) two_ints
         ≡ Err (codes "InvalidArgs") }
     ensures no_text { meant registry (codes "RegisterEvent") (int (pos 0) ∷ one_text []) ≡ Err (codes "InvalidArgs") }
     ensures nothing { meant registry (codes "RegisterEvent") [] ≡ Err (codes "InvalidArgs") }

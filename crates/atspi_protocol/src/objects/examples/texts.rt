@@ -1,9 +1,13 @@
 //! Text and EditableText.
 
-ghost use Rattle.std.specs.Prelude.{◌≡◌, ◌∷◌, [], pos, negsuc, true, false, codes};
-ghost use Rattle.atspi_types.specs.Data.{boolean_data, text_data};
+ghost use Rattle.std.specs.Prelude.{◌≡◌, ◌∷◌, [], None, Some, pos, negsuc, true, false, codes};
+ghost use Rattle.atspi_types.specs.Data.{boolean_data, number_data, text_data};
+ghost use Rattle.atspi_types.specs.Kinds.{u32};
+ghost use Rattle.atspi_units.specs.declared.grain.Grain.TheVariants.{Char, Word, Line};
 ghost use Rattle.atspi_protocol.specs.ends.Messages.{returns};
 ghost use Rattle.atspi_protocol.specs.members.Arguments.{int};
+ghost use Rattle.atspi_protocol.specs.members.Granularity.{grain_of};
+ghost use Rattle.atspi_protocol.specs.objects.Texts.{piece_there};
 ghost use Rattle.atspi_protocol.specs.objects.Cases.{entry, hello, told, steps, one, two, three, written};
 
 use crate::members::ObjectMember;
@@ -21,6 +25,30 @@ pub fn parts()
     ensures character { told entry ObjectMember.GetCharacterAtOffset (one (pos 1)) ≡ returns (int (pos 233) ∷ []) }
     ensures no_character { told entry ObjectMember.GetCharacterAtOffset (one (pos 5)) ≡ returns (int (pos 0) ∷ []) }
     ensures before { told entry ObjectMember.GetCharacterAtOffset (one (negsuc 0)) ≡ returns (int (pos 0) ∷ []) }
+{}
+
+/// The piece that holds a character, by the numbers of AtspiTextGranularity.
+pub fn pieces()
+    ensures characters { grain_of 0 ≡ Some Char }
+    ensures words { grain_of 1 ≡ Some Word }
+    ensures no_sentences { grain_of 2 ≡ None }
+    ensures lines { grain_of 3 ≡ Some Line }
+    ensures paragraphs { grain_of 4 ≡ Some Line }
+    ensures no_others { grain_of 5 ≡ None }
+    ensures character { told entry ObjectMember.GetStringAtOffset (int (pos 1) ∷ number_data u32 0 ∷ [])
+        ≡ returns (text_data (233 ∷ []) ∷ int (pos 1) ∷ int (pos 2) ∷ []) }
+    ensures line { told entry ObjectMember.GetStringAtOffset (int (pos 4) ∷ number_data u32 3 ∷ [])
+        ≡ returns (text_data hello ∷ int (pos 0) ∷ int (pos 5) ∷ []) }
+    ensures paragraph { told entry ObjectMember.GetStringAtOffset (int (pos 0) ∷ number_data u32 4 ∷ [])
+        ≡ returns (text_data hello ∷ int (pos 0) ∷ int (pos 5) ∷ []) }
+    ensures behind { told entry ObjectMember.GetStringAtOffset (int (pos 5) ∷ number_data u32 0 ∷ [])
+        ≡ returns (text_data [] ∷ int (negsuc 0) ∷ int (negsuc 0) ∷ []) }
+    ensures before { told entry ObjectMember.GetStringAtOffset (int (negsuc 0) ∷ number_data u32 3 ∷ [])
+        ≡ returns (text_data [] ∷ int (negsuc 0) ∷ int (negsuc 0) ∷ []) }
+    ensures word { piece_there (Some Word) (codes "can't stop") (pos 7)
+        ≡ Some (record { characters = codes "stop"; start = 6; end = 10 }) }
+    ensures long_word { piece_there (Some Word) (codes "can't stop") (pos 4)
+        ≡ Some (record { characters = codes "can't"; start = 0; end = 5 }) }
 {}
 
 /// The caret goes to any place in the text.

@@ -15,5 +15,8 @@ returns-in-GetText g c = IfOk-weaker c.get_text.result _ _ (λ v h. subst (λ (m
 pub returns-in-GetCharacterAtOffset : goal.returns-in-GetCharacterAtOffset
 returns-in-GetCharacterAtOffset g c = IfOk-weaker c.get_character.result _ _ (λ v h. subst (λ (m : ObjectMember). TellsText (g.C.Face.nodes c.args.texts.now) c.args.node m (fields_data c.args.args) (all_data v)) (sym c.in-GetCharacterAtOffset.is) h) c.get_character.ensures
 
+pub returns-in-GetStringAtOffset : goal.returns-in-GetStringAtOffset
+returns-in-GetStringAtOffset g c = IfOk-weaker c.get_string.result _ _ (λ v h. subst (λ (m : ObjectMember). TellsText (g.C.Face.nodes c.args.texts.now) c.args.node m (fields_data c.args.args) (all_data v)) (sym c.in-GetStringAtOffset.is) h) c.get_string.ensures
+
 pub returns-in-GetSelection : goal.returns-in-GetSelection
 returns-in-GetSelection g c = IfOk-weaker c.get_selection.result _ _ (λ v h. subst (λ (m : ObjectMember). TellsText (g.C.Face.nodes c.args.texts.now) c.args.node m (fields_data c.args.args) (all_data v)) (sym c.in-GetSelection.is) h) c.get_selection.ensures

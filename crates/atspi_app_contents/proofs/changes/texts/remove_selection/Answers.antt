@@ -3,7 +3,6 @@ use Rattle.std.proofs.lemmas.Int.{to_z-of_z}
 use Rattle.std.proofs.lemmas.Result.{IfOk-weaker}
 use Rattle.atspi_marshal_in_place.specs.Items.{fields_data}
 use Rattle.atspi_app_contents.specs.values.Places.{place_of}
-use Rattle.atspi_tree_model.specs.Edits.{known_text}
 use Rattle.std.proofs.Common.{List, ℕ}
 use Rattle.atspi_app_contents.specs.changes.inner.Steps.{removed}
 use Rattle.atspi_app_contents.proofs.OfChanges.Changed.{removes_selection}

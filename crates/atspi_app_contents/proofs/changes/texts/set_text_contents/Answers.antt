@@ -1,8 +1,6 @@
-use Rattle.std.proofs.Common.{Some, None, refl, sym, ap, ◌∙◌, w32, SFits, rules}
-use Rattle.std.proofs.lemmas.Int.{to_z-of_z}
+use Rattle.std.proofs.Common.{ap, ◌∙◌}
 use Rattle.std.proofs.lemmas.Result.{IfOk-weaker}
 use Rattle.atspi_marshal_in_place.specs.Items.{fields_data}
-use Rattle.atspi_app_contents.specs.values.Places.{place_of}
 use Rattle.std.proofs.Common.{List, ℕ}
 use Rattle.atspi_app_contents.specs.changes.inner.Steps.{exchanged}
 use Rattle.atspi_app_contents.proofs.OfChanges.Changed.{exchanges_text}

@@ -1,5 +1,5 @@
-use Rattle.std.proofs.Common.{sym, ap, ◌∙◌, subst, ◌≤◌, ◌<◌, ℕ, arith}
-use Rattle.atspi_app_contents.proofs.OfTexts.TextLemmas.{may_read, code_there, code_behind}
+use Rattle.std.proofs.Common.{◌∙◌, arith}
+use Rattle.atspi_app_contents.proofs.OfTexts.TextLemmas.{may_read, code_there}
 use Rattle.atspi_app_contents.proofs.texts.text.code_there.Goals as goal
 
 pub part-requires : goal.part-requires

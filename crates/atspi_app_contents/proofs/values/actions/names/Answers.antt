@@ -1,5 +1,5 @@
-use Rattle.std.proofs.Common.{◌∙◌, arith}
-use Rattle.atspi_app_contents.proofs.OfValues.Contents.{has_name, names_more, names_all}
+use Rattle.std.proofs.Common.{arith}
+use Rattle.atspi_app_contents.proofs.OfValues.Contents.{has_name, names_more}
 use Rattle.atspi_app_contents.proofs.values.actions.names.Goals as goal
 
 pub part-requires : goal.part-requires

@@ -1,5 +1,5 @@
-use Rattle.std.proofs.Common.{ℕ, ◌<◌, ◌/◌, ◌*◌, arith}
-use Rattle.atspi_app_contents.proofs.OfValues.CellLemmas.{whole_row, in_row, cell_some, no_row, no_column}
+use Rattle.std.proofs.Common.{◌<◌, ◌/◌, arith}
+use Rattle.atspi_app_contents.proofs.OfValues.CellLemmas.{whole_row, in_row}
 use Rattle.atspi_app_contents.proofs.values.cells.cell.Goals as goal
 
 pub overflow_mul-before : goal.overflow_mul-before

@@ -1,4 +1,4 @@
-use Rattle.std.proofs.Common.{◌≡◌, ◌/◌, ◌∙◌, length, arith}
+use Rattle.std.proofs.Common.{◌≡◌, ◌∙◌, arith}
 use Rattle.atspi_types.specs.DataView.{all_data}
 use Rattle.atspi_app_contents.proofs.OfValues.CellLemmas.{all_rows}
 use Rattle.atspi_app_contents.proofs.values.cells.selected_rows.Goals as goal

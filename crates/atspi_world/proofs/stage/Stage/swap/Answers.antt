@@ -1,4 +1,7 @@
-use Rattle.std.proofs.Common.{map, refl, sym, ap, ◌∙◌, append-nil, arith}
+use Rattle.std.proofs.Common.{List, map, length, refl, sym, ap, inl, inr, ◌∙◌, append-nil, arith}
+use Rattle.std.specs.Prelude.{slice_set}
+use Rattle.std.proofs.lemmas.List.{nil_from_length}
+use Rattle.std.proofs.lemmas.Result.{on_ok_weaker}
 use Rattle.atspi_trace.specs.Causes.{does, swaps_face}
 use Rattle.atspi_trace.specs.Entry.{entries_of}
 use Rattle.atspi_world.proofs.Results.{ok_any}
@@ -15,3 +18,18 @@ returns-in-Some-clause-does g c =
 
 pub returns-in-None-clause-does : goal.returns-in-None-clause-does
 returns-in-None-clause-does g c = λ p is free some. absurd (omega (arith, is.is.spares_are, c.in-None.ensures))
+
+pub returns-in-Some-clause-exchanged : goal.returns-in-Some-clause-exchanged
+returns-in-Some-clause-exchanged g c =
+    let texts = g.A.Application.texts in
+    on_ok_weaker c.swap_at.result (λ moved. inr (
+      c.in-Some.spare,
+      c.in-Some.ensures.items,
+      λ less.
+          ap (map texts) (written_back _ c.swap_at.new.apps _ (omega arith))
+          ∙ moved (omega (arith, less, ap length c.deref_mut.ensures.value))
+          ∙ ap (λ apps. slice_set (map texts apps) c.args.app (g.A.Application.number c.in-Some.spare)) c.deref_mut.ensures.value,
+    )) c.swap_at.ensures.moved
+
+pub returns-in-None-clause-exchanged : goal.returns-in-None-clause-exchanged
+returns-in-None-clause-exchanged g c = inl (nil_from_length _ (omega (arith, c.in-None.ensures)))
