@@ -1,17 +1,13 @@
-//! The program `atspi`: the top call over the command line, standard input and standard output, and the live commands
-//! over the system's sockets.
+//! The program `atspi`: the top call over the command line, standard input, standard output and the system's sockets.
 #![tactic(auto)]
 
 mod input;
-mod live;
 mod output;
 mod retry;
 
-use atspi_base::{Text, TextFault};
 use atspi_live_sockets::NetHost;
-use atspi_run::run;
+use atspi_run::{longest_rest, run};
 use input::StandardInput;
-use live::{do_live, live_in};
 use output::StandardOutput;
 use std::env;
 use std::io::ErrorKind;
@@ -37,16 +33,8 @@ fn main(rt: HostRuntime) -> ExitCode {
     let alloc = rt.alloc();
     let mut source = StandardInput::new(rt.stdin(), &rt);
     let mut sink = StandardOutput::new(rt.stdout(), &rt);
-    let Some(live) = live_in(&words) else {
-        return ExitCode::from(run(alloc, &words, &mut source, &mut sink));
-    };
-    let path = match Text::read(alloc, live.path) {
-        Ok(path) => path,
-        Err(TextFault::NoMemory) => return ExitCode::from(5),
-        Err(_) => return ExitCode::from(run(alloc, &words, &mut source, &mut sink)),
-    };
-    let mut host = NetHost::new(alloc, &rt, live.rest());
-    let status = do_live(alloc, live, &path, &mut source, &mut sink, &mut host);
+    let mut host = NetHost::new(alloc, &rt, longest_rest(&words));
+    let status = run(alloc, &words, &mut source, &mut sink, &mut host);
     host.leave();
     ExitCode::from(status)
 }

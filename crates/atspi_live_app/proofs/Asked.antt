@@ -8,7 +8,8 @@ use Rattle.atspi_script_lines.specs.declared.line.LineFault.{LineFault}
 use Rattle.atspi_script_lines.specs.declared.line.LineFault.TheVariants as faults
 use Rattle.atspi_script_lines.specs.Line.{ReadsLine, Spells}
 use Rattle.atspi_script_lines.proofs.OnceLemmas.{one_reading}
-use Rattle.atspi_live_app.specs.Asking.{AsksFor, IsAsk, IsEditLine, OtherIn, edit_in, plain_in}
+use Rattle.atspi_live_app.specs.Asking.{IsAsk, IsEditLine}
+use Rattle.atspi_live_app.specs.inner.Asking.{AsksFor, OtherIn, edit_in, plain_in}
 use Rattle.atspi_live_app.specs.declared.asking.Ask.{Ask}
 use Rattle.atspi_live_app.specs.declared.asking.Ask.TheVariants as ask
 

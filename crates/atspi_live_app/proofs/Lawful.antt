@@ -2,9 +2,9 @@
 use Rattle.std.proofs.Common.{◌≡◌, ℕ, List, subst}
 use Rattle.std.specs.Prelude.{Result, Ok}
 use Rattle.atspi_script_lines.specs.declared.line.LineFault.{LineFault}
-use Rattle.atspi_live_app.specs.Input.{Passes}
+use Rattle.atspi_live_app.specs.inner.Input.{Passes}
 use Rattle.atspi_live_app.specs.Asking.{IsAsk}
-use Rattle.atspi_live_app.specs.Live.{IsLawful}
+use Rattle.atspi_live_app.specs.inner.Live.{IsLawful}
 use Rattle.atspi_live_app.specs.declared.asking.Ask.{Ask}
 use Rattle.atspi_live_app.specs.declared.asking.Ask.TheVariants as ask
 

@@ -21,3 +21,4 @@ pub mod Rounding
 pub mod Ending
 pub mod Passed
 pub mod Unstarted
+pub mod Statuses

@@ -4,7 +4,8 @@ use Rattle.std.specs.Prelude.{◌⊎◌, Ok}
 use Rattle.atspi_live_host.specs.declared.call.Call.{Call}
 use Rattle.atspi_live_conversation.specs.Moved.{Tells}
 use Rattle.atspi_live_conversation.specs.Rounds.{Makes}
-use Rattle.atspi_live_app.specs.Input.{Passes, left_in}
+use Rattle.atspi_live_app.specs.Input.{left_in}
+use Rattle.atspi_live_app.specs.inner.Input.{Passes}
 use Rattle.atspi_live_app.specs.Lines.{lines_of}
 use Rattle.atspi_live_app.specs.Pace.{AllTake, BreaksOver, EndsTurn, GoesOn, Heard, IsPaced, Proceeds, Starts, StopsAt, Takes, rounds_of, total}
 use Rattle.atspi_live_app.specs.Standing.{Event}

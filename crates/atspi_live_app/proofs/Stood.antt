@@ -5,10 +5,12 @@ use Rattle.atspi_message.specs.Envelope.{Envelope}
 use Rattle.atspi_message.specs.Rules.{MeetsRules}
 use Rattle.atspi_live_conversation.specs.Sent.{AllMeet}
 use Rattle.atspi_protocol.specs.exporting.Exporter.{Exporter}
-use Rattle.atspi_live_app.specs.Input.{Passes, left_in}
+use Rattle.atspi_live_app.specs.Input.{left_in}
+use Rattle.atspi_live_app.specs.inner.Input.{Passes}
 use Rattle.atspi_live_app.specs.Lines.{lines_of, onto}
 use Rattle.atspi_live_app.specs.Standing.{Does, Event, HandedOut, IsNumbered, does, takes, lines_in, taken_in}
-use Rattle.atspi_live_app.specs.Live.{Hands, IsKept, IsStarted, Stands, marks_in, seen}
+use Rattle.atspi_live_app.specs.Live.{IsKept, Stands, marks_in, seen}
+use Rattle.atspi_live_app.specs.inner.Live.{Hands, IsStarted}
 use Rattle.atspi_live_app.specs.declared.asking.Ask.{Ask}
 use Rattle.atspi_live_app.proofs.Making.{after_taken, comes_taken, does_whole, handed_both, lines_both, makes_both, numbered_on, taken_both, took_whole}
 use Rattle.atspi_live_app.proofs.Meeting.{next_meets}

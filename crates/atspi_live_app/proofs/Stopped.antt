@@ -6,7 +6,8 @@ use Rattle.atspi_script_lines.specs.declared.line.LineFault.{LineFault}
 use Rattle.atspi_script_lines.specs.declared.line.LineFault.TheVariants as faults
 use Rattle.atspi_protocol.specs.exporting.Exporter.{Exporter}
 use Rattle.atspi_live_app.specs.Asking.{IsAsk}
-use Rattle.atspi_live_app.specs.Input.{Passes, left_in}
+use Rattle.atspi_live_app.specs.Input.{left_in}
+use Rattle.atspi_live_app.specs.inner.Input.{Passes}
 use Rattle.atspi_live_app.specs.Lines.{lines_of}
 use Rattle.atspi_live_app.specs.Standing.{IsNumbered, IsRefused, Makes, RefusedNext, lines_in}
 use Rattle.atspi_live_app.specs.Live.{IsMarked, IsStopped, IsUndone, Stands, seen}

@@ -17,7 +17,8 @@ use Rattle.atspi_live_conversation.proofs.StepLemmas.{all_done}
 use Rattle.atspi_protocol.specs.exporting.Exporter.{Exporter}
 use Rattle.atspi_live_app.specs.Lines.{lines_of}
 use Rattle.atspi_live_app.specs.Standing.{Event, IsAfter, IsEmpty, IsSpent}
-use Rattle.atspi_live_app.specs.Live.{IsMarked, IsStopped, Stands, StandsAt, aside_of, queued_in, seen}
+use Rattle.atspi_live_app.specs.Live.{IsMarked, IsStopped, Stands, StandsAt, queued_in, seen}
+use Rattle.atspi_live_app.specs.inner.Live.{aside_of}
 use Rattle.atspi_live_app.specs.Input.{left_in}
 use Rattle.atspi_live_app.specs.Overs.{IsOver, StopsSo}
 use Rattle.atspi_live_app.specs.Pace.{Heard}

@@ -1,13 +1,8 @@
 -- What was read of a source, and the lines of it that are still to come.
-use Rattle.std.specs.Prelude.{◌≡◌, ℕ, ◌<◌, ◌+◌, List, [], ◌∷◌, ◌++◌, length, drop, Option, Result, MatchOption}
-use Rattle.std.specs.Prelude.{MatchResult}
+use Rattle.std.specs.Prelude.{◌≡◌, ℕ, ◌<◌, ◌+◌, List, ◌++◌, length, drop, Option}
 use Rattle.std.specs.Io.KnownBytes.{Consumes, IsAtEnd}
 use Rattle.atspi_base.specs.Outside.{Rose}
-use Rattle.atspi_base.specs.declared.outside.NoMemory.{NoMemory}
-use Rattle.atspi_script_lines.specs.declared.line.LineFault.{LineFault}
-use Rattle.atspi_live_app.specs.Asking.{AsksFor}
 use Rattle.atspi_live_app.specs.Lines.{lines_of}
-use Rattle.atspi_live_app.specs.declared.asking.Ask.{Ask}
 use Rattle.atspi_live_app.specs.declared.input.TheConstants.{INPUT_LIMIT}
 use Rattle.atspi_live_app.specs.declared.input.End.{End}
 use Rattle.atspi_live_app.specs.declared.input.End.TheVariants.{Whole, TooLong, Failed}
@@ -24,23 +19,6 @@ abbrev pub BlamesEnd : ℕ → ℕ → End → Type 0
 BlamesEnd before after Failed = Rose before after
 BlamesEnd before after _ = after ≡ before
 
-abbrev pub Blames : Result End NoMemory → ℕ → ℕ → Type 0
-Blames r before after = MatchResult r (BlamesEnd before after) (λ _. after ≡ before)
-
 -- the lines of a text that are still to come
 abbrev pub left_in : List ℕ → ℕ → List (List ℕ)
 left_in text at = lines_of (drop at text)
-
--- a line was passed, which asks for this
-pub record Passes (asked : Result Ask LineFault) (text : List ℕ) (at number at' number' : ℕ) : Type 0 where
-  pub line : List ℕ
-  pub first : left_in text at ≡ line ∷ left_in text at'
-  pub asks : AsksFor asked line
-  pub counted : number + 1 < 18446744073709551616 → number' ≡ number + 1
-
--- the next line was passed, or none was left
-abbrev pub NextAsk : Option (Result Ask LineFault) → List ℕ → ℕ → ℕ → List ℕ → ℕ → ℕ → Type 0
-NextAsk next text at number text' at' number' =
-    (text' ≡ text)
-    × MatchOption next ((left_in text at ≡ []) × (at' ≡ at) × (number' ≡ number))
-    (λ asked. Passes asked text at number at' number')

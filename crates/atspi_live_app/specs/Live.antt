@@ -1,7 +1,6 @@
 -- A live application: what it has done, what it hands out, and why a line of its input is not done.
 use Rattle.std.specs.Prelude.{◌≡◌, ◌≤◌, ℕ, ◌+◌, List, [], ◌∷◌, ◌++◌, length, take, drop, Option, None, Some}
 use Rattle.std.specs.Prelude.{MatchOption, ⊤}
-use Rattle.atspi_tree_model.specs.Edits.{IsEdit}
 use Rattle.atspi_message.specs.Envelope.{Envelope}
 use Rattle.atspi_protocol.specs.exporting.Exporter.{Exporter}
 use Rattle.atspi_app_known.specs.application.Seen.{IsSpentAfter}
@@ -33,15 +32,6 @@ abbrev pub IsKept : {A K : Type 0} → (A → Type 0) → (K → Type 0) → Opt
 IsKept is_app is_kit None kit = MatchOption kit ⊥ is_kit
 IsKept is_app is_kit (Some app) kit = is_app app
 
-abbrev pub IsStarted : {A : Type 0} → (A → Type 0) → Option A → Type 0
-IsStarted is_app None = ⊤
-IsStarted is_app (Some app) = is_app app
-
--- a message was handed out, and what stands before it passed; or all was passed, and none was there
-abbrev pub Hands : {M : Type 0} → (M → Envelope) → Option M → Option Exporter → Option Exporter → Type 0
-Hands envelope None old new = HandedOut [] new old
-Hands envelope (Some m) old new = HandedOut (envelope m ∷ []) new old
-
 -- how many messages were taken before each line was done, where so many were taken before all that happened
 abbrev pub marks_in : ℕ → List Event → List ℕ
 marks_in taken [] = []
@@ -69,10 +59,6 @@ pub record Stands {A K : Type 0} (is_app : A → Type 0) (exporter : A → Expor
   pub numbered : IsNumbered (seen exporter app)
   pub counted : number ≡ length (lines_in history)
 
--- what it tells beside the link: where the next line begins, behind how many messages each line was done, and its text
-abbrev pub aside_of : ℕ → List ℕ → List ℕ → List ℕ
-aside_of place marks text = place ∷ length marks ∷ (marks ++ text)
-
 -- the same, where it tells this
 abbrev pub StandsAt : {A K : Type 0} → (A → Type 0) → (A → Exporter) → (K → Type 0) → List ℕ → Option A → Option K
     → List ℕ → ℕ → ℕ → List Envelope → List Envelope → Type 0
@@ -80,11 +66,6 @@ StandsAt is_app exporter is_kit [] app kit held at number took said = ⊥
 StandsAt is_app exporter is_kit (place ∷ []) app kit held at number took said = ⊥
 StandsAt is_app exporter is_kit (place ∷ count ∷ told) app kit held at number took said =
     (at ≡ place) × Stands is_app exporter is_kit (drop count told) (take count told) app kit held at number took said
-
--- an edit that is asked for can be
-abbrev pub IsLawful : Ask → Type 0
-IsLawful (ask.Edit edit) = IsEdit edit
-IsLawful what = ⊤
 
 -- the edit would take its messages past the last number
 abbrev pub SpentBy : Option Exporter → Ask → Type 0

@@ -1,8 +1,8 @@
 -- What a run of the live application does, and how it ends.
 use Rattle.std.specs.Prelude.{◌≡◌, ◌⊎◌, ℕ, List, [], ◌∷◌, Option}
 use Rattle.std.specs.Io.KnownBytes.{Appends}
-use Rattle.atspi_base.specs.Outside.{AppendsPart}
 use Rattle.atspi_live_host.specs.declared.call.Call.{Call}
+use Rattle.atspi_base.specs.Outside.{AppendsPart, Rose}
 use Rattle.atspi_live_conversation.specs.Reports.{IsOnLink, Quietly, Reports}
 use Rattle.atspi_live_app.specs.Input.{BlamesEnd, HasRead}
 use Rattle.atspi_live_app.specs.Lines.{lines_of}
@@ -72,3 +72,14 @@ abbrev pub RunEnds : List ℕ → Option (List ℕ) → Option (List ℕ) → �
 RunEnds path left left' source source' ks status rounds calls calls' w w' =
     EndsEarly left left' source source' ks status calls calls' w w'
     ⊎ EndsLate path left left' source source' ks status rounds calls' w w'
+
+-- the statuses of an end on its link
+abbrev pub IsEndStatus : ℕ → Type 0
+IsEndStatus status = (status ≡ 0)
+    ⊎ ((status ≡ 4)
+    ⊎ ((status ≡ 5) ⊎ ((status ≡ 6) ⊎ ((status ≡ 7) ⊎ ((status ≡ 8) ⊎ ((status ≡ 10) ⊎ (status ≡ 13)))))))
+
+-- the statuses of a run: 3 exactly where the count of the source rose
+pub record EndsKnown (status source source' : ℕ) : Type 0 where
+  pub known : (status ≡ 1) ⊎ ((status ≡ 3) ⊎ IsEndStatus status)
+  pub read : ((status ≡ 3) × Rose source source') ⊎ ((status ≡ 3 → ⊥) × (source' ≡ source))

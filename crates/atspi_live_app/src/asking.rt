@@ -2,7 +2,8 @@
 
 ghost use Rattle.std.specs.Prelude.{◌≡◌, ◌<◌, ◌^◌, ℕ, ◌++◌, List, MatchOption, codes};
 ghost use Rattle.std.specs.Fmt.{decimal};
-ghost use Rattle.atspi_live_app.specs.Asking.{AsksFor, EditIn, IsWait, OtherIn, edit_in, plain_in};
+ghost use Rattle.atspi_live_app.specs.Asking.{IsWait};
+ghost use Rattle.atspi_live_app.specs.inner.Asking.{AsksFor, EditIn, OtherIn, edit_in, plain_in};
 
 use atspi_base::Text;
 use atspi_script_lines::{Line, LineFault, parse_line, read_number};

@@ -1,7 +1,8 @@
 //! The input of an application: read to its end, and then line by line.
 
 ghost use Rattle.std.specs.Prelude.{◌≡◌, ◌≤◌, [], length, IfOk};
-ghost use Rattle.atspi_live_app.specs.Input.{Blames, HasRead, NextAsk};
+ghost use Rattle.atspi_live_app.specs.Input.{HasRead};
+ghost use Rattle.atspi_live_app.specs.inner.Input.{Blames, NextAsk};
 
 use crate::asking::{Ask, ask_of};
 use crate::lines::line_end;

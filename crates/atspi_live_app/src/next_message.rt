@@ -4,7 +4,8 @@ ghost use Rattle.std.specs.Prelude.{◌≡◌, ◌<◌, [], Some, IfNone, IfSome
 ghost use Rattle.atspi_message.specs.Envelope.{envelope_of};
 ghost use Rattle.atspi_app_known.specs.happenings.Happened.{happening_of};
 ghost use Rattle.atspi_live_app.specs.HandedOver.{HandsOver, IsHanded};
-ghost use Rattle.atspi_live_app.specs.Live.{Hands, IsStarted, queued_in, seen};
+ghost use Rattle.atspi_live_app.specs.Live.{queued_in, seen};
+ghost use Rattle.atspi_live_app.specs.inner.Live.{Hands, IsStarted};
 ghost use Rattle.atspi_live_app.specs.declared.next_message.Handed.{Handed};
 
 use atspi_app::{AppEvent, Application};

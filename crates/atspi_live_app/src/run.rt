@@ -1,10 +1,10 @@
 //! A run of an application on a Unix socket.
 
-ghost use Rattle.std.specs.Prelude.{◌≡◌, ◌≤◌, [], length};
+ghost use Rattle.std.specs.Prelude.{◌≡◌, ◌≤◌, ◌⊎◌, [], length};
 ghost use Rattle.atspi_live_conversation.specs.Reports.{Begins, Causes, SinkBlamed};
 ghost use Rattle.atspi_live_app.specs.Lines.{lines_of};
 ghost use Rattle.atspi_live_app.specs.Names.{refused_text};
-ghost use Rattle.atspi_live_app.specs.Runs.{OverReports, RunEnds, TextEnds, WritesRefusal};
+ghost use Rattle.atspi_live_app.specs.Runs.{EndsKnown, IsEndStatus, OverReports, RunEnds, TextEnds, WritesRefusal};
 
 use crate::input::{End, INPUT_LIMIT, read_all};
 use crate::live_app::{LiveApp, Stop};
@@ -63,6 +63,7 @@ fn run_on<A: Application, K: Sink, H: Host>(
     requires links { H.links host.old ≡ [] }
     ensures ends { TextEnds (lines_of text.items) path.now (H.links host.new) result rounds (H.calls host.new)
         (K.written sink.old) (K.written sink.new) }
+    ensures known { (result ≡ 1) ⊎ IsEndStatus result }
     ensures causes { Causes result (H.faults host.old) (H.faults host.new) (H.link_faults host.old)
         (H.link_faults host.new) (K.faults sink.old) (K.faults sink.new) }
     ensures later { K.faults sink.old ≤ K.faults sink.new }
@@ -105,6 +106,7 @@ pub fn app<A: Application, S: Source, K: Sink, H: Host>(
         (H.link_faults host.new) (K.faults sink.old) (K.faults sink.new) }
     ensures later { K.faults sink.old ≤ K.faults sink.new }
     ensures source_later { S.faults source.old ≤ S.faults source.new }
+    ensures known { EndsKnown result (S.faults source.old) (S.faults source.new) }
 {
     let mut text = Vec::new(alloc);
     match read_all(source, &mut text) {

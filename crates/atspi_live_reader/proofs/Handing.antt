@@ -9,7 +9,8 @@ use Rattle.atspi_protocol.specs.following.Takes.{reader_takes, starts}
 use Rattle.atspi_live_conversation.specs.Sent.{AllMeet}
 use Rattle.atspi_reader.specs.Steps.{IsState}
 use Rattle.atspi_live_reader.specs.Spoken.{following, say_line, sent_in, spoken_in}
-use Rattle.atspi_live_reader.specs.Handed.{Follows, Gives, GivesRest, GivesSo, HandsAll, IsFrontOf, KeepsLine}
+use Rattle.atspi_live_reader.specs.Handed.{Follows, Gives, GivesSo, IsFrontOf, KeepsLine}
+use Rattle.atspi_live_reader.specs.inner.Handed.{GivesRest, HandsAll}
 use Rattle.atspi_live_reader.proofs.Framing.{put, takes_put}
 use Rattle.atspi_live_reader.proofs.Sending.{AllSent, all_meet, back_sent, front_sent, meets_in}
 

@@ -17,7 +17,9 @@ use Rattle.atspi_live_conversation.specs.Talking.{Blames}
 use Rattle.atspi_live_conversation.specs.declared.ending.Ending.{Ending}
 use Rattle.atspi_live_conversation.specs.declared.ending.Ending.TheVariants as endings
 use Rattle.atspi_live_conversation.specs.Reports.{IsOnLink, Reports, SinkBlamed, Writes}
-use Rattle.atspi_live_reader.specs.Following.{AreWords, BlamesSink, EndsRun, HasWords, IsOver, IsQuiet, IsSpentIn, IsUntold, OverBlames, RunsOver, SpeaksUp, Stands, WritesPart}
+use Rattle.atspi_live_reader.specs.Following.{AreWords, BlamesSink, EndsRun, IsOver, IsQuiet, IsSpentIn, IsUntold}
+use Rattle.atspi_live_reader.specs.Following.{OverBlames, RunsOver, SpeaksUp, Stands, WritesPart}
+use Rattle.atspi_live_reader.specs.inner.Following.{HasWords}
 use Rattle.atspi_live_reader.specs.Handed.{Follows, IsFrontOf}
 use Rattle.atspi_live_reader.specs.Runs.{AllSpeak, AreLast, Causes, EndsOn, IsAll, OfTaken, ReportsLast, RunEnds, WritesLast}
 use Rattle.atspi_live_reader.specs.Shows.{last_words, shown_in}

@@ -12,7 +12,8 @@ use Rattle.atspi_live_conversation.specs.declared.ending.Ending.{Ending}
 use Rattle.atspi_live_conversation.specs.declared.ending.Ending.TheVariants as endings
 use Rattle.atspi_protocol.specs.following.ReaderState.{ReaderState}
 use Rattle.atspi_protocol.specs.following.Takes.{held_names}
-use Rattle.atspi_live_reader.specs.Handed.{GivesRest, KeepsLine}
+use Rattle.atspi_live_reader.specs.Handed.{KeepsLine}
+use Rattle.atspi_live_reader.specs.inner.Handed.{GivesRest}
 use Rattle.atspi_live_reader.specs.Shows.{last_words, show_if, show_text, shown_in, shown_of}
 use Rattle.atspi_live_reader.specs.Spoken.{spoken_in}
 

@@ -12,7 +12,8 @@ use Rattle.atspi_live_conversation.specs.Speech.{IsSpeech, envelopes, line_bytes
 use Rattle.atspi_live_conversation.proofs.LineLemmas.{none_behind}
 use Rattle.atspi_live_conversation.proofs.SentLemmas.{none_parted}
 use Rattle.atspi_live_reader.specs.Spoken.{IsAfter, IsSpoken, following, spoken_in}
-use Rattle.atspi_live_reader.specs.Cases.{hail, hello, said, told}
+use Rattle.atspi_live_reader.specs.Cases.{hail, said, told}
+use Rattle.atspi_live_reader.specs.inner.Cases.{hello}
 
 -- the first bytes of equal lists are equal
 pub first_is : {x y : ℕ} {xs ys : List ℕ} → x ∷ xs ≡ y ∷ ys → x ≡ y

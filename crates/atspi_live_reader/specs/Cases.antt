@@ -1,14 +1,7 @@
 -- A reader that has started, and what it did, for values that are worked out by hand.
 use Rattle.std.specs.Prelude.{ℕ, List, [], ◌∷◌, ◌++◌, codes}
 use Rattle.atspi_auth.specs.Lines.{end_of_line}
-use Rattle.atspi_message.specs.Envelope.{Envelope}
-use Rattle.atspi_protocol.specs.declared.following.question.Question.TheVariants.{Hello}
-use Rattle.atspi_protocol.specs.following.Calls.{asking}
 use Rattle.atspi_protocol.specs.following.ReaderState.{Done, speaks, tells_end}
-
--- its first call, and its first line
-abbrev pub hello : Envelope
-hello = asking 1 Hello
 
 abbrev pub hail : List ℕ
 hail = 0 ∷ codes "AUTH EXTERNAL" ++ end_of_line

@@ -84,13 +84,6 @@ EndsRun k (overs.Ended ending) calls w w' l = (written : List ℕ) × Appends w 
     × IsLeft (Stands written) IsSpentIn k ending calls l
 EndsRun k overs.NotWritten calls w w' l = ⊤
 
--- a run that was over so may have left words to be written: before authentication is over a reader has none, and behind
--- want of memory none are told
-abbrev pub HasWords : Ending → Type 0
-HasWords endings.NotAuthenticated = ⊥
-HasWords endings.NoMemory = ⊥
-HasWords ending = ⊤
-
 -- these are the words: the lines that were not written yet, and the last ones; where memory was wanting for a line they
 -- are not known
 abbrev pub AreWords : LiveReader → Ending → List ℕ → Type 0

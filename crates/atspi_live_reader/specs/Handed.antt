@@ -1,5 +1,5 @@
 -- What is handed over of what a reader did, for its link and as lines.
-use Rattle.std.specs.Prelude.{◌≡◌, ◌⊎◌, ℕ, Bool, true, List, [], ◌∷◌, ◌++◌, Option, None, Some}
+use Rattle.std.specs.Prelude.{◌≡◌, ◌⊎◌, ℕ, Bool, true, List, [], ◌∷◌, ◌++◌}
 use Rattle.atspi_message.specs.Envelope.{Envelope, envelope_of}
 use Rattle.atspi_protocol.specs.following.ReaderState.{Done, sends, ReaderState}
 use Rattle.atspi_reader.specs.Steps.{IsState}
@@ -31,17 +31,6 @@ pub record GivesSo (messages : List Envelope) (old new : ReaderState) (starved s
   pub done : List Done
   pub sent : sent_in done ≡ messages
   pub gives : Gives old new done starved starved' lines lines'
-
-abbrev pub HandsAll : {M : Type 0} → (M → Envelope) → Option M → ReaderState → ReaderState → Bool → Bool → List ℕ
-    → List ℕ → Type 0
-HandsAll seen None old new starved starved' lines lines' = GivesSo [] old new starved starved' lines lines'
-HandsAll seen (Some m) old new starved starved' lines lines' =
-    GivesSo (seen m ∷ []) old new starved starved' lines lines'
-
--- all that it did was handed over, and nothing else changed
-pub record GivesRest (old new : ReaderState) (starved starved' : Bool) (lines lines' : List ℕ) : Type 0 where
-  pub whole : old ≡ record new { out = old.out }
-  pub kept : KeepsLine starved starved' lines lines' (spoken_in old.out)
 
 -- bytes that stand at the front of all
 abbrev pub IsFrontOf : List ℕ → List ℕ → Type 0

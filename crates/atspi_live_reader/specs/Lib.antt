@@ -4,3 +4,4 @@ pub mod Handed
 pub mod Following
 pub mod Runs
 pub mod Cases
+pub mod inner

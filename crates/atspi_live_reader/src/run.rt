@@ -4,7 +4,8 @@ ghost use Rattle.std.specs.Prelude.{◌≡◌, ◌≤◌, ℕ, List, [], false, 
 ghost use Rattle.std.specs.Io.KnownBytes.{Appends};
 ghost use Rattle.atspi_reader.specs.ReaderOf.{IsReader};
 ghost use Rattle.atspi_live_conversation.specs.Reports.{Begins, SinkBlamed};
-ghost use Rattle.atspi_live_reader.specs.Following.{AreWords, HasWords, WritesPart};
+ghost use Rattle.atspi_live_reader.specs.Following.{AreWords, WritesPart};
+ghost use Rattle.atspi_live_reader.specs.inner.Following.{HasWords};
 ghost use Rattle.atspi_live_reader.specs.Runs.{AllSpeak, Causes, ReportsLast, RunEnds};
 
 use crate::following::follow;

@@ -4,7 +4,8 @@ ghost use Rattle.std.specs.Prelude.{◌≡◌, ◌<◌, ◌++◌, List, [], fals
 ghost use Rattle.atspi_message.specs.Envelope.{Envelope, envelope_of};
 ghost use Rattle.atspi_reader.specs.ReaderOf.{IsReader, reader_of};
 ghost use Rattle.atspi_live_reader.specs.Spoken.{say_line};
-ghost use Rattle.atspi_live_reader.specs.Handed.{GivesRest, GivesSo, HandsAll, HandsOver, KeepsLine};
+ghost use Rattle.atspi_live_reader.specs.Handed.{GivesSo, HandsOver, KeepsLine};
+ghost use Rattle.atspi_live_reader.specs.inner.Handed.{GivesRest, HandsAll};
 ghost use Rattle.atspi_live_reader.specs.declared.handed.Handed.{Handed};
 
 use crate::handed::Handed;

@@ -1,3 +1,4 @@
 pub mod CommandLemmas
+pub mod LiveLemmas
 pub mod TaskLemmas
 pub mod WordLemmas

@@ -7,6 +7,8 @@ use Rattle.std.specs.Fmt.{decimal}
 use Rattle.std.specs.Io.KnownBytes.{Appends}
 use Rattle.atspi_base.specs.Outside.{AppendsPart}
 use Rattle.atspi_trace_texts.specs.declared.options.TraceOptions.{TraceOptions}
+use Rattle.atspi_run_live.specs.Words.{IsLive}
+use Rattle.atspi_run_live.specs.declared.words.Service.{Service}
 use Rattle.atspi_run.specs.declared.words.Script.{Script}
 use Rattle.atspi_run.specs.declared.words.Task.{Task}
 use Rattle.atspi_run.specs.declared.words.Task.TheVariants.{Replay, Make}
@@ -195,21 +197,12 @@ told_is_not_2 status words w w' tell is told = told_or_4 status told.0 w w' (tel
 
 -- status 2 comes for the words of no command
 pub no_command : (status : ℕ) (words : List (List ℕ)) (w w' : Option (List ℕ)) → ((options : TraceOptions) → IsReplay words options → ⊥) → ((count seed : ℕ) → IsMake words count seed → ⊥) → (IsCheck words → ⊥)
-    → ((text : List ℕ) → Asks words text → Tells 0 text status w w') → status ≡ 2 → IsCommand words → ⊥
-no_command status words w w' r m c tell is (inl replay) = r replay.0 replay.1
-no_command status words w w' r m c tell is (inr (inl made)) = m made.0 made.1 made.2
-no_command status words w w' r m c tell is (inr (inr (inl check))) = c check
-no_command status words w w' r m c tell is (inr (inr (inr told))) = told_is_not_2 status words w w' tell is told
-
--- a list of three words
-pub only_three : (ws : List (String Global)) (a b c : String Global) → 3 ≤ length ws → length ws < 4 → a ≡ get_or ws 0 a → b ≡ get_or ws 1 b → c ≡ get_or ws 2 c → map string_bytes ws ≡ string_bytes a ∷ string_bytes b ∷ string_bytes c ∷ []
-only_three [] a b c least most e f h = absurd (omega arith)
-only_three (x ∷ []) a b c least most e f h = absurd (omega arith)
-only_three (x ∷ y ∷ []) a b c least most e f h = absurd (omega arith)
-only_three (x ∷ y ∷ z ∷ []) a b c least most e f h =
-    ap (λ s. string_bytes s ∷ string_bytes y ∷ string_bytes z ∷ []) (sym e) ∙ ap (λ s. string_bytes a ∷ string_bytes s ∷ string_bytes z ∷ []) (sym f)
-    ∙ ap (λ s. string_bytes a ∷ string_bytes b ∷ string_bytes s ∷ []) (sym h)
-only_three (x ∷ y ∷ z ∷ w ∷ ws) a b c least most e f h = absurd (omega arith)
+    → ((service : Service) (path : List ℕ) (rounds : ℕ) → IsLive words service path rounds → ⊥) → ((text : List ℕ) → Asks words text → Tells 0 text status w w') → status ≡ 2 → IsCommand words → ⊥
+no_command status words w w' r m c l tell is (inl replay) = r replay.0 replay.1
+no_command status words w w' r m c l tell is (inr (inl made)) = m made.0 made.1 made.2
+no_command status words w w' r m c l tell is (inr (inr (inl check))) = c check
+no_command status words w w' r m c l tell is (inr (inr (inr (inl told)))) = told_is_not_2 status words w w' tell is told
+no_command status words w w' r m c l tell is (inr (inr (inr (inr live)))) = l live.0 live.1 live.2 live.3
 
 -- the numbers of `make`, by its words
 pub asked : (r : Option Script) (words : List (List ℕ)) (first second : List ℕ) → words ≡ codes "make" ∷ first ∷ second ∷ []

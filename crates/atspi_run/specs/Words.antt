@@ -4,6 +4,8 @@ use Rattle.std.specs.Fmt.{decimal}
 use Rattle.std.specs.Io.KnownBytes.{Appends}
 use Rattle.atspi_base.specs.Outside.{AppendsPart}
 use Rattle.atspi_trace_texts.specs.declared.options.TraceOptions.{TraceOptions}
+use Rattle.atspi_run_live.specs.Words.{IsLive}
+use Rattle.atspi_run_live.specs.declared.words.Service.{Service}
 use Rattle.atspi_run.specs.declared.words.Script.{Script}
 use Rattle.atspi_run.specs.declared.words.Task.{Task}
 use Rattle.atspi_run.specs.declared.words.Task.TheVariants.{Replay, Make}
@@ -170,9 +172,13 @@ IsReplayed words = (options : TraceOptions) × IsReplay words options
 abbrev pub IsMade : List (List ℕ) → Type 0
 IsMade words = (count : ℕ) × (seed : ℕ) × IsMake words count seed
 
+-- the words ask for an end on a socket
+abbrev pub IsLiveCommand : List (List ℕ) → Type 0
+IsLiveCommand words = (service : Service) × (path : List ℕ) × (rounds : ℕ) × IsLive words service path rounds
+
 -- the words are those of a command
 abbrev pub IsCommand : List (List ℕ) → Type 0
-IsCommand words = IsReplayed words ⊎ (IsMade words ⊎ (IsCheck words ⊎ IsTold words))
+IsCommand words = IsReplayed words ⊎ (IsMade words ⊎ (IsCheck words ⊎ (IsTold words ⊎ IsLiveCommand words)))
 
 -- the text was written, and the status is the one that is due; or a front of it was, and the status is 4
 abbrev pub Tells : ℕ → List ℕ → ℕ → Option (List ℕ) → Option (List ℕ) → Type 0

@@ -1,4 +1,5 @@
-//! What the words of a command line do: the top call `run`, over any source and any sink.
+//! What the words of a command line do: the top call `run`, over any source, any sink and any
+//! host.
 #![tactic(auto)]
 
 mod commands;
@@ -6,4 +7,5 @@ pub mod reader_end;
 mod words;
 mod world;
 
+pub use atspi_run_live::longest_rest;
 pub use commands::run;

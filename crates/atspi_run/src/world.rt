@@ -1,7 +1,7 @@
 //! The ends of this program's worlds, and what is done in one.
 
 ghost use Rattle.std.specs.Prelude.{◌≡◌, All, IfOk, Ok, length};
-ghost use Rattle.atspi_app_exported.specs.Parts.{AreEmpty, AreKinds, IsEmpty, faces_of, kinds_of};
+ghost use Rattle.atspi_app_exported.specs.Parts.{AreEmpty, AreKinds, IsEmpty, IsOfTexts, faces_of, kinds_of};
 ghost use Rattle.atspi_script_lines.specs.declared.limits.TheConstants.{APP_COUNT};
 ghost use Rattle.atspi_run_replay.specs.Causes.{Causes};
 ghost use Rattle.atspi_run.specs.inner.Tasks.{DoesTask, MayDo};
@@ -98,7 +98,7 @@ pub fn do_task<S: Source, K: Sink>(alloc: Global, task: Task, source: &mut S, si
         alloc,
         BOX_COUNT,
         || -> Result<Box<dyn Face>, AllocError>
-            ensures { IfOk result (λ spare. IsEmpty (nodes spare)) }
+            ensures { IfOk result (λ spare. IsOfTexts (of_kind spare) × IsEmpty (nodes spare)) }
         {
             let spare = Box::new(alloc, GapText::new(alloc))?;
             Ok(spare)

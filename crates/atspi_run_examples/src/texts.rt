@@ -4,7 +4,8 @@ ghost use Rattle.std.specs.Prelude.{◌≡◌, ◌∷◌, ◌++◌, [], ℕ, Lis
 ghost use Rattle.atspi_script_lines.specs.declared.line.Line.{Line};
 ghost use Rattle.atspi_script_lines.specs.declared.line.Line.TheVariants as line;
 ghost use Rattle.atspi_run_replay.specs.Done.{AreSpelled};
-ghost use Rattle.atspi_run_replay.specs.Lines.{FirstLine, lines_of, lines_read, whole_lines};
+ghost use Rattle.atspi_run_replay.specs.Lines.{lines_of, lines_read, whole_lines};
+ghost use Rattle.atspi_run_replay.specs.inner.Lines.{FirstLine};
 ghost use Rattle.atspi_run_replay.specs.Told.{bytes_text, entry_text, told_text};
 ghost use Rattle.atspi_run_examples.specs.Small.{all, brief, brief_wire, letter_told, quiet_told, wire};
 

@@ -12,7 +12,8 @@ use Rattle.atspi_world_parties.specs.Shown.{row_total, shown_by}
 use Rattle.atspi_world_parties.specs.Wires.{name_if}
 use Rattle.atspi_world.specs.Worlds.{Staged}
 use Rattle.atspi_run_replay.specs.Done.{HasRegistry}
-use Rattle.atspi_run_replay.specs.Made.{AreOfScript, HasMade, is_spoken, is_step}
+use Rattle.atspi_run_replay.specs.Made.{AreOfScript, is_spoken, is_step}
+use Rattle.atspi_run_replay.specs.inner.Made.{HasMade}
 use Rattle.atspi_run_replay.proofs.Counts.{counts_both}
 use Rattle.atspi_run_replay.proofs.Refusing.{lawful, there}
 use Rattle.atspi_run_replay.proofs.TheFirst.{rows_are}

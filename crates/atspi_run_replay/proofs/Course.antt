@@ -31,7 +31,8 @@ use Rattle.atspi_run_replay.specs.Told.{Told, entries_told, told_text}
 use Rattle.atspi_run_replay.specs.Wired as wired
 use Rattle.atspi_run_replay.specs.Wired.{AreWired, IsTold}
 use Rattle.atspi_run_replay.specs.Done.{AreSpelled, BreaksOff, IsReached, EndsWith, IsHaltedBehind, IsLawfulOf, IsRefusedBehind, Upto}
-use Rattle.atspi_run_replay.specs.Play.{Did, DidLine, DoneText, HaltedIn, HaltedText, IsLineText, PlayedHalted, PlayedPart, PlayedRefused, RefusedIn, RefusedText, StoppedAt, added}
+use Rattle.atspi_run_replay.specs.Play.{DoneText, HaltedText, PlayedHalted, PlayedPart, PlayedRefused, RefusedText}
+use Rattle.atspi_run_replay.specs.inner.Play.{Did, DidLine, HaltedIn, IsLineText, RefusedIn, StoppedAt, added}
 use Rattle.atspi_run_replay.proofs.DoneLemmas.{added_are, spelled_more, entries_both, text_more}
 use Rattle.atspi_run_replay.proofs.Segments.{can_stand, played_more}
 use Rattle.atspi_run_replay.proofs.Wiring.{wired_by, added_wired}

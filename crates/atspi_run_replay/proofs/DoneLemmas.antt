@@ -9,9 +9,10 @@ use Rattle.atspi_script_lines.specs.Line.{Spells}
 use Rattle.atspi_world_links.specs.declared.post.Post.{Post}
 use Rattle.atspi_trace.specs.Entry.{Entry, entry_of, entries_of}
 use Rattle.atspi_world.specs.Worlds.{Staged}
-use Rattle.atspi_run_replay.specs.Told.{Told, entries_told, entry_text, told_on, told_text}
+use Rattle.atspi_run_replay.specs.Told.{Told, entries_told, entry_text, told_text}
+use Rattle.atspi_run_replay.specs.inner.Told.{told_on}
 use Rattle.atspi_run_replay.specs.Done.{AreSpelled}
-use Rattle.atspi_run_replay.specs.Play.{added}
+use Rattle.atspi_run_replay.specs.inner.Play.{added}
 
 pub text_more : (options : TraceOptions) (xs ys : List Told) → told_text options (xs ++ ys) ≡ told_text options xs ++ told_text options ys
 text_more options xs ys = flat_map-append (entry_text options) xs ys

@@ -1,4 +1,5 @@
 pub mod Came
+pub mod Completing
 pub mod Counts
 pub mod Course
 pub mod DoneLemmas

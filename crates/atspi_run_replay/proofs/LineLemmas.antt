@@ -1,7 +1,8 @@
 -- A text at its first line feed.
 use Rattle.std.proofs.Common.{◌≡◌, ◌≢◌, ℕ, suc, zero, ◌<◌, Bool, true, false, cond, eqb, List, [], ◌∷◌, length, get_or, take, drop, refl, ap, arith, length-drop}
 use Rattle.std.proofs.lemmas.Bool.{ne_eqb}
-use Rattle.atspi_run_replay.specs.Lines.{onto, onto_whole, lines_of, whole_lines, FirstLine}
+use Rattle.atspi_run_replay.specs.Lines.{onto, onto_whole, lines_of, whole_lines}
+use Rattle.atspi_run_replay.specs.inner.Lines.{FirstLine}
 
 -- no byte below i is a line feed
 abbrev pub NoFeed : List ℕ → ℕ → Type 0

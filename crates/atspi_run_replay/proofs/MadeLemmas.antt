@@ -5,9 +5,10 @@ use Rattle.atspi_base.specs.Outside.{AppendsPart}
 use Rattle.atspi_run_replay.specs.declared.naming.Halt.TheVariants.{RegistryLost, Spent}
 use Rattle.atspi_run_replay.specs.declared.naming.Stop.{Stop}
 use Rattle.atspi_run_replay.specs.declared.naming.Stop.TheVariants.{Refused, Halted, Write, NoMemory}
-use Rattle.atspi_run_replay.specs.Made.{AreOfScript, Made, ScriptStops, made_text}
-use Rattle.atspi_run_replay.specs.Play.{BlamesStop}
-use Rattle.atspi_run_replay.specs.Run.{stop_status}
+use Rattle.atspi_run_replay.specs.Made.{AreOfScript, Made, made_text}
+use Rattle.atspi_run_replay.specs.inner.Made.{ScriptStops}
+use Rattle.atspi_run_replay.specs.inner.Play.{BlamesStop}
+use Rattle.atspi_run_replay.specs.inner.Run.{stop_status}
 use Rattle.atspi_run_replay.proofs.DoneLemmas.{appends_nothing}
 
 pub made_done : (count seed steps nodes says : ℕ) (w w' : Option (List ℕ)) → AreOfScript count seed steps nodes says → Appends w w' (made_text count seed steps nodes says) → Made count seed 0 w w'

@@ -6,7 +6,8 @@ use Rattle.atspi_base.specs.Outside.{AppendsPart, appends_both, appends_part, pa
 use Rattle.atspi_trace_events.specs.declared.event.Event.{Event}
 use Rattle.atspi_trace_texts.specs.declared.options.TraceOptions.{TraceOptions}
 use Rattle.atspi_world_links.specs.declared.post.Post.{Post}
-use Rattle.atspi_run_replay.specs.Told.{Told, told_from, told_if, told_text}
+use Rattle.atspi_run_replay.specs.Told.{Told, told_text}
+use Rattle.atspi_run_replay.specs.inner.Told.{told_from, told_if}
 use Rattle.atspi_run_replay.proofs.DoneLemmas.{appends_nothing, text_more}
 use Rattle.atspi_run_replay.proofs.TellLemmas.{from_next}
 

@@ -11,7 +11,9 @@ use Rattle.atspi_run_replay.specs.Names.{refused_text}
 use Rattle.atspi_run_replay.specs.Told.{Told, told_text}
 use Rattle.atspi_run_replay.specs.declared.naming.Stop.{Stop}
 use Rattle.atspi_run_replay.specs.declared.naming.Stop.TheVariants.{Refused, Halted, Write, NoMemory}
-use Rattle.atspi_run_replay.specs.Play.{Did, DidLine, Ended, HaltedIn, IfHalted, IfRefused, PlayedHalted, PlayedPart, PlayedRefused, RefusedIn, StoppedAt, added}
+use Rattle.atspi_run_replay.specs.Play.{PlayedHalted, PlayedPart, PlayedRefused}
+use Rattle.atspi_run_replay.specs.inner.Play.{Did, DidLine, Ended, HaltedIn, IfHalted, IfRefused, RefusedIn, StoppedAt}
+use Rattle.atspi_run_replay.specs.inner.Play.{added}
 use Rattle.atspi_run_replay.proofs.Course.{SoFar, halted_next, nothing_told, refused_next}
 use Rattle.atspi_run_replay.proofs.DoneLemmas.{appends_nothing}
 use Rattle.atspi_run_replay.proofs.StopLemmas.{halted_weaker, refused_weaker}

@@ -11,8 +11,10 @@ use Rattle.atspi_trace_texts.specs.declared.options.TraceOptions.{TraceOptions}
 use Rattle.atspi_run_replay.specs.declared.naming.Halt.TheVariants.{RegistryLost, Spent}
 use Rattle.atspi_run_replay.specs.declared.naming.Stop.{Stop}
 use Rattle.atspi_run_replay.specs.declared.naming.Stop.TheVariants.{Refused, Halted, Write, NoMemory}
-use Rattle.atspi_run_replay.specs.Play.{BlamesStop, IfHalted, IfRefused, Played, PlayedHalted, PlayedPart, PlayedRefused}
-use Rattle.atspi_run_replay.specs.Run.{OfAll, OfReading, OfFront, OfLimit, Replayed, end_status, stop_status}
+use Rattle.atspi_run_replay.specs.Play.{Played, PlayedHalted, PlayedPart, PlayedRefused}
+use Rattle.atspi_run_replay.specs.inner.Play.{BlamesStop, IfHalted, IfRefused}
+use Rattle.atspi_run_replay.specs.Run.{OfAll, OfReading, OfFront, OfLimit, Replayed}
+use Rattle.atspi_run_replay.specs.inner.Run.{end_status, stop_status}
 use Rattle.atspi_run_replay.proofs.Course.{nothing_told}
 use Rattle.atspi_run_replay.proofs.DoneLemmas.{appends_nothing}
 

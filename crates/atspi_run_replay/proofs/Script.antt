@@ -20,7 +20,8 @@ use Rattle.atspi_world.specs.Lines.{IsLineDone, LineDone}
 use Rattle.atspi_world.specs.MayAct.{MayAct}
 use Rattle.atspi_world.specs.Worlds.{Staged, IsPlaying}
 use Rattle.atspi_run_replay.specs.declared.naming.Stop.{Stop}
-use Rattle.atspi_run_replay.specs.Made.{AreDrawn, AreSeen, none_drawn, one_drawn, HasDrawn, HasMade, HasPlayed, LinesDone, opening, round, tree_told, turns_behind}
+use Rattle.atspi_run_replay.specs.Made.{AreDrawn, none_drawn, one_drawn, opening, round, tree_told, turns_behind}
+use Rattle.atspi_run_replay.specs.inner.Made.{AreSeen, HasDrawn, HasMade, HasPlayed, LinesDone}
 use Rattle.atspi_run_replay.proofs.Course.{can_more}
 use Rattle.atspi_run_replay.proofs.Refusing.{lawful}
 use Rattle.atspi_run_replay.proofs.Segments.{played_more, stands}

@@ -4,7 +4,7 @@ use Rattle.atspi_run_replay.specs.declared.naming.Halt.{Halt}
 use Rattle.atspi_run_replay.specs.declared.naming.Refused as refused
 use Rattle.atspi_run_replay.specs.declared.naming.Stop.{Stop}
 use Rattle.atspi_run_replay.specs.declared.naming.Stop.TheVariants.{Refused, Halted, Write, NoMemory}
-use Rattle.atspi_run_replay.specs.Play.{IfHalted, IfRefused}
+use Rattle.atspi_run_replay.specs.inner.Play.{IfHalted, IfRefused}
 
 -- what does not come may have any fact
 pub halted_never : {T : Type 0} (r : Result T Stop) (P : Halt → Type 0) → IfHalted r (λ why. ⊥) → IfHalted r P

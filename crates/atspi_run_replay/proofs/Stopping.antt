@@ -39,8 +39,10 @@ use Rattle.atspi_run_replay.specs.declared.naming.Refused.TheVariants.{World}
 use Rattle.atspi_run_replay.specs.declared.naming.Stop.{Stop}
 use Rattle.atspi_run_replay.specs.declared.naming.Stop.TheVariants.{Refused}
 use Rattle.atspi_run_replay.specs.Done.{BreaksOff, EndsWith}
-use Rattle.atspi_run_replay.specs.Made.{HasDrawn, HasPlayed, IsHaltedOf, IsRefusedOf, ScriptStops, StandsBehind, StopsAt, in_opening, last_drain, next_edit, next_turns, tree_told}
-use Rattle.atspi_run_replay.specs.Run.{stop_of}
+use Rattle.atspi_run_replay.specs.Made.{IsHaltedOf, IsRefusedOf, StandsBehind, in_opening, last_drain, next_edit}
+use Rattle.atspi_run_replay.specs.Made.{next_turns, tree_told}
+use Rattle.atspi_run_replay.specs.inner.Made.{HasDrawn, HasPlayed, ScriptStops, StopsAt}
+use Rattle.atspi_run_replay.specs.inner.Run.{stop_of}
 use Rattle.atspi_run_replay.proofs.Course.{can_more}
 use Rattle.atspi_run_replay.proofs.Refusing.{begins_so, drops_last, is_refused}
 use Rattle.atspi_run_replay.proofs.Script.{lawful_so, played_line}

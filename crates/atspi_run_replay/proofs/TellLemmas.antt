@@ -8,7 +8,8 @@ use Rattle.atspi_trace_texts.specs.declared.options.TraceOptions.{TraceOptions}
 use Rattle.atspi_trace_texts.specs.EventText.{event_text}
 use Rattle.atspi_trace_texts.specs.TraceText.{is_brief}
 use Rattle.atspi_world_parties.specs.Wires.{wire_bytes}
-use Rattle.atspi_run_replay.specs.Told.{Told, bytes_text, told_at, told_if, told_on, told_from, told_text}
+use Rattle.atspi_run_replay.specs.Told.{Told, bytes_text, told_text}
+use Rattle.atspi_run_replay.specs.inner.Told.{told_at, told_if, told_on, told_from}
 
 told_by : (brief keeps : Bool) → cond brief keeps true ≡ true → (text : List ℕ) → cond brief (cond keeps text []) text ++ [] ≡ text
 told_by false keeps h text = append-nil text

@@ -51,7 +51,8 @@ use Rattle.atspi_world_parties.specs.Places.{post_of}
 use Rattle.atspi_world_parties.specs.Shown.{row_total, shown_by}
 use Rattle.atspi_world_parties.specs.Wires.{name_if}
 use Rattle.atspi_world.specs.Worlds.{Staged}
-use Rattle.atspi_run_replay.specs.Made.{AreSeen, HasPlayed, tree_told}
+use Rattle.atspi_run_replay.specs.Made.{tree_told}
+use Rattle.atspi_run_replay.specs.inner.Made.{AreSeen, HasPlayed}
 use Rattle.atspi_run_replay.proofs.Numbering.{first_app, first_reader}
 use Rattle.atspi_run_replay.proofs.TreesTold.{ComesAfter, all_entries}
 

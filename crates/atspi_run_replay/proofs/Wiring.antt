@@ -24,7 +24,8 @@ use Rattle.atspi_world_parties.specs.Places.{post_of}
 use Rattle.atspi_world_parties.specs.Wires as wires
 use Rattle.atspi_world_parties.specs.Wires.{name_if, event_bytes}
 use Rattle.atspi_world.specs.Worlds.{Staged, IsPlaying}
-use Rattle.atspi_run_replay.specs.Told.{Told, entries_told, told_at, told_on, told_from}
+use Rattle.atspi_run_replay.specs.Told.{Told, entries_told}
+use Rattle.atspi_run_replay.specs.inner.Told.{told_at, told_on, told_from}
 use Rattle.atspi_run_replay.specs.Wired.{sent_as, sent_in, name_of, as_taken, taken_bytes, bytes_behind, AreWired, IsTold, begun, did}
 use Rattle.atspi_run_replay.proofs.DoneLemmas.{entries_both}
 

@@ -7,4 +7,5 @@ pub mod Done
 pub mod Play
 pub mod Causes
 pub mod Run
+pub mod Complete
 pub mod Made

@@ -8,25 +8,19 @@ use Rattle.atspi_tree_model.specs.declared.edit.Edit.{Edit}
 use Rattle.atspi_tree_model.specs.Tree.{shape_of}
 use Rattle.atspi_script_lines.specs.declared.line.Line.{Line}
 use Rattle.atspi_script_lines.specs.declared.line.Line.TheVariants.{App, Reader, Edit as Edit_line, Turns, Drain}
-use Rattle.atspi_tree.specs.TreeShape.{TreeShape, IsLawful}
-use Rattle.atspi_run_make.specs.Drawing.{drawn_edit, live_nodes}
-use Rattle.atspi_run_make.specs.Live.{CanFollow}
-use Rattle.atspi_trace.specs.Entry.{Entry, changed, spoke, entries_of}
+use Rattle.atspi_tree.specs.TreeShape.{TreeShape}
+use Rattle.atspi_run_make.specs.Drawing.{drawn_edit}
+use Rattle.atspi_trace.specs.Entry.{Entry, changed, spoke}
 use Rattle.atspi_trace.specs.Work.{Refusal, work_of}
 use Rattle.atspi_trace.specs.Due.{Begun, Lawful, refusal_at}
 use Rattle.atspi_trace_laws.specs.laws.NineLaws.{rows_due}
 use Rattle.atspi_trace_laws.specs.laws.Words.{added, held, live_tree}
-use Rattle.atspi_trace_laws.specs.order.Scripts.{CanAllStand}
 use Rattle.atspi_trace.specs.play.Playing.{Playing}
 use Rattle.atspi_trace.specs.play.Played as playing
 use Rattle.atspi_trace.specs.play.Played.{IsPlayed}
-use Rattle.atspi_world.specs.Lines.{LineDone}
 use Rattle.atspi_world_parties.specs.Shown.{row_total}
-use Rattle.atspi_world.specs.Worlds.{Staged, IsPlaying}
 use Rattle.atspi_run_replay.specs.declared.naming.Halt.{Halt}
 use Rattle.atspi_run_replay.specs.declared.naming.Halt.TheVariants.{RegistryLost, Spent}
-use Rattle.atspi_run_replay.specs.declared.naming.Stop.{Stop}
-use Rattle.atspi_run_replay.specs.declared.naming.Stop.TheVariants.{Refused, Halted, Write, NoMemory}
 use Rattle.atspi_run_replay.specs.Done.{BreaksOff, EndsWith, HasRegistry}
 
 -- `made N SEED steps S nodes M says K`
@@ -120,13 +114,6 @@ pub record IsHaltedOf (why : Halt) (count seed : ℕ) : Type 0 where
   pub next : StandsBehind seed count lines line trace
   pub broken : IsBrokenOff why lines line trace more
 
--- why a script is not done to its end; the sink has no part in it
-abbrev pub ScriptStops : ℕ → ℕ → Stop → Type 0
-ScriptStops count seed (Refused why) = IsRefusedOf count seed
-ScriptStops count seed (Halted why) = IsHaltedOf why count seed
-ScriptStops count seed NoMemory = Unit {0}
-ScriptStops count seed Write = ⊥
-
 -- THE NUMBERS ARE THOSE OF A LAWFUL TRACE OF THE SCRIPT: its steps, its spoken lines, and the rows that the reader is
 -- due to show of the application behind it. The registry is there behind it too.
 pub record AreOfScript (count seed steps nodes says : ℕ) : Type 0 where
@@ -140,51 +127,6 @@ pub record AreOfScript (count seed steps nodes says : ℕ) : Type 0 where
   pub steps_are : steps ≡ count_by is_step (early ++ more)
   pub nodes_are : nodes ≡ row_total (rows_due (early ++ more) 0 (held (early ++ more) 0 0))
   pub says_are : says ≡ count_by is_spoken (early ++ more)
-
--- these lines were played, and all that the stage tells is of them
-pub record HasPlayed (lines : List Line) (s : Staged) : Type 0 where
-  pub can : CanAllStand lines
-  pub now : Playing
-  pub is : IsPlaying now s
-  pub played : IsPlayed lines (entries_of s.trace) now
-
--- why any script stops whose next line this is, behind lines that were played in a stage
-abbrev pub StopsAt : Line → Staged → Stop → Type 0
-StopsAt line s stop = (count seed : ℕ) (lines : List Line) → HasPlayed lines s
-    → StandsBehind seed count lines line (entries_of s.trace) → ScriptStops count seed stop
-
--- lines were done, one behind the other
-abbrev pub LinesDone : List Line → Staged → Staged → Type 0
-LinesDone [] old new = new ≡ old
-LinesDone (line ∷ lines) old new = (next : Staged) × LineDone line old next × LinesDone lines next new
-
--- so many edits were drawn and made in a stage
-pub record HasDrawn (seed k x : ℕ) (s : Staged) : Type 0 where
-  pub lines : List Line
-  pub drawn : AreDrawn seed k lines (entries_of s.trace) x
-  pub played : HasPlayed lines s
-
--- the whole script was done in it
-pub record HasMade (seed k : ℕ) (s : Staged) : Type 0 where
-  pub lines : List Line
-  pub early : List Entry
-  pub more : List Entry
-  pub state : ℕ
-  pub drawn : AreDrawn seed k lines early state
-  pub so : entries_of s.trace ≡ early ++ more
-  pub played : HasPlayed (lines ++ Drain ∷ []) s
-
--- the live nodes were seen in a front of a trace, and below which number; or none were, and any tree can be followed
-pub record WereSeen (seen : List ℕ) (next : ℕ) (trace : List Entry) : Type 0 where
-  pub early : List Entry
-  pub more : List Entry
-  pub so : trace ≡ early ++ more
-  pub is_tree : IsLawful (tree_told early)
-  pub live : seen ≡ live_nodes (tree_told early)
-  pub below : next ≡ (tree_told early).added + 1
-
-abbrev pub AreSeen : List ℕ → ℕ → List Entry → Type 0
-AreSeen seen next trace = ((t : TreeShape) → CanFollow seen next t) ⊎ WereSeen seen next trace
 
 -- 0: the line was written. 4: a front of it. 1: a line of the script is refused. 9: the registry was dropped at one,
 -- and 13: serials were spent. With any status but 0 and 4 nothing was written.

@@ -3,14 +3,7 @@ use Rattle.std.specs.Prelude.{◌≡◌, ◌⊎◌, ℕ, ◌<◌, ◌≤◌, Lis
 use Rattle.std.specs.Io.KnownBytes.{Consumes, IsAtEnd}
 use Rattle.atspi_run_replay.specs.Lines.{lines_read, lines_of, whole_lines}
 use Rattle.atspi_trace_texts.specs.declared.options.TraceOptions.{TraceOptions}
-use Rattle.atspi_world.specs.declared.fault.ActFault.{ActFault}
-use Rattle.atspi_world.specs.declared.fault.ActFault.TheVariants as act
-use Rattle.atspi_run_replay.specs.declared.input.End.{End}
-use Rattle.atspi_run_replay.specs.declared.input.End.TheVariants.{Whole, TooLong, Failed}
 use Rattle.atspi_run_replay.specs.declared.naming.Halt.TheVariants.{RegistryLost, Spent}
-use Rattle.atspi_run_replay.specs.declared.naming.Refused.TheVariants.{World}
-use Rattle.atspi_run_replay.specs.declared.naming.Stop.{Stop}
-use Rattle.atspi_run_replay.specs.declared.naming.Stop.TheVariants.{Refused, Halted, Write, NoMemory}
 use Rattle.atspi_run_replay.specs.Play.{Played, PlayedHalted, PlayedPart, PlayedRefused}
 
 -- the text is what was read of the input: all of it, or its front
@@ -42,28 +35,6 @@ IsReplayStatus status =
     (status ≡ 0)
     ⊎ ((status ≡ 1)
     ⊎ ((status ≡ 3) ⊎ ((status ≡ 4) ⊎ ((status ≡ 5) ⊎ ((status ≡ 8) ⊎ ((status ≡ 9) ⊎ (status ≡ 13)))))))
-
--- the status where all lines were done, by how the reading ended
-abbrev pub end_status : End → ℕ
-end_status Whole = 0
-end_status TooLong = 8
-end_status Failed = 3
-
--- and where they were not
-abbrev pub stop_status : Stop → ℕ
-stop_status (Refused why) = 1
-stop_status Write = 4
-stop_status NoMemory = 5
-stop_status (Halted RegistryLost) = 9
-stop_status (Halted Spent) = 13
-
--- why a line that a world did not do stops a run
-abbrev pub stop_of : ActFault → Stop
-stop_of (act.Refused why) = Refused (World why)
-stop_of act.Spent = Halted Spent
-stop_of act.RegistryLost = Halted RegistryLost
-stop_of act.Unsendable = NoMemory
-stop_of act.NoMemory = NoMemory
 
 -- What `replay` does, by its status. The source had `left` and has `left'` now, and `w` was written before and `w'` is
 -- now. 0: the source was read to its end, and all its lines were done. 1: a line of what was read is refused, and those

@@ -1,13 +1,11 @@
 -- What is written of events: the text of each that is told, and the bytes of its message where they are asked for.
-use Rattle.std.specs.Prelude.{ℕ, suc, List, [], ◌∷◌, ◌++◌, cond, drop, map, Option, None, Some}
+use Rattle.std.specs.Prelude.{ℕ, List, [], ◌∷◌, ◌++◌, cond, map}
 use Rattle.std.specs.List.{flat_map}
 use Rattle.atspi_trace_events.specs.declared.event.Event.{Event}
 use Rattle.atspi_trace_texts.specs.declared.options.TraceOptions.{TraceOptions}
 use Rattle.atspi_trace_texts.specs.EventText.{ended, event_text}
 use Rattle.atspi_trace_texts.specs.TraceText.{is_brief, wire_line}
-use Rattle.atspi_world_links.specs.declared.post.Post.{Post}
 use Rattle.atspi_trace.specs.Entry.{Entry, entries_of}
-use Rattle.atspi_world_parties.specs.Wires.{event_bytes}
 
 -- an event, and the bytes of the message that it tells of; none where it tells of none
 pub record Told : Type 0 where
@@ -33,20 +31,3 @@ entry_text options t = cond options.brief (cond (is_brief t.event) (whole_text o
 
 abbrev pub told_text : TraceOptions → List Told → List ℕ
 told_text options ts = flat_map (entry_text options) ts
-
--- the event at a place of a trace, with the bytes of its message
-abbrev pub told_at : List Post → List Event → ℕ → Event → Told
-told_at posts trace place event = record { event = event; bytes = event_bytes posts trace place event }
-
-abbrev pub told_if : List Post → List Event → ℕ → Option Event → List Told
-told_if posts trace place None = []
-told_if posts trace place (Some event) = told_at posts trace place event ∷ []
-
--- the events from a place on
-abbrev pub told_on : List Post → List Event → ℕ → List Event → List Told
-told_on posts trace place [] = []
-told_on posts trace place (event ∷ events) = told_at posts trace place event ∷ told_on posts trace (suc place) events
-
--- all from a place on
-abbrev pub told_from : List Post → List Event → ℕ → List Told
-told_from posts trace place = told_on posts trace place (drop place trace)

@@ -3,6 +3,7 @@
 #![tactic(auto)]
 
 mod input;
+pub mod laws;
 mod lines;
 mod making;
 mod naming;

@@ -1,7 +1,8 @@
 //! Splitting a text into lines.
 
 ghost use Rattle.std.specs.Prelude.{◌≡◌, [], MatchOption};
-ghost use Rattle.atspi_run_replay.specs.Lines.{FirstLine, lines_read};
+ghost use Rattle.atspi_run_replay.specs.Lines.{lines_read};
+ghost use Rattle.atspi_run_replay.specs.inner.Lines.{FirstLine};
 
 /// The first line of a text, and the text behind it. The last line may lack its line feed where the text has ended;
 /// else it is no line yet. None where there is no line.

@@ -16,8 +16,10 @@ ghost use Rattle.atspi_world.specs.Worlds.{staged};
 ghost use Rattle.atspi_trace.specs.Entry.{entries_of, entry_of};
 ghost use Rattle.atspi_trace.specs.Work.{spare_count};
 ghost use Rattle.atspi_run_replay.specs.Causes.{Causes};
-ghost use Rattle.atspi_run_replay.specs.Made.{AreOfScript, AreSeen, HasDrawn, HasMade, HasPlayed, LinesDone, Made};
-ghost use Rattle.atspi_run_replay.specs.Made.{ScriptStops, StopsAt, is_spoken, is_step, made_text, opening, tree_told};
+ghost use Rattle.atspi_run_replay.specs.Made.{AreOfScript, Made};
+ghost use Rattle.atspi_run_replay.specs.inner.Made.{AreSeen, HasDrawn, HasMade, HasPlayed, LinesDone};
+ghost use Rattle.atspi_run_replay.specs.Made.{is_spoken, is_step, made_text, opening, tree_told};
+ghost use Rattle.atspi_run_replay.specs.inner.Made.{ScriptStops, StopsAt};
 ghost use Rattle.atspi_run_replay.specs.Made.{turns_behind};
 
 use crate::naming::{Refused, Stop, stop_of_act};

@@ -9,8 +9,10 @@ ghost use Rattle.atspi_world.specs.Worlds.{staged, IsPlaying};
 ghost use Rattle.atspi_trace.specs.Work.{spare_count};
 ghost use Rattle.atspi_run_replay.specs.Lines.{lines_read};
 ghost use Rattle.atspi_run_replay.specs.Names.{refused_text};
-ghost use Rattle.atspi_run_replay.specs.Play.{BlamesWrite, Did, DoesLine, Ended, IfHalted, IfRefused, Played};
-ghost use Rattle.atspi_run_replay.specs.Play.{PlayedHalted, PlayedPart, PlayedRefused, RefusedIn, StoppedAt};
+ghost use Rattle.atspi_run_replay.specs.Play.{Played};
+ghost use Rattle.atspi_run_replay.specs.inner.Play.{BlamesWrite, Did, DoesLine, Ended, IfHalted, IfRefused};
+ghost use Rattle.atspi_run_replay.specs.Play.{PlayedHalted, PlayedPart, PlayedRefused};
+ghost use Rattle.atspi_run_replay.specs.inner.Play.{RefusedIn, StoppedAt};
 
 use crate::lines::next_line;
 use crate::naming::{Stop, stop_of_act, stop_of_line};

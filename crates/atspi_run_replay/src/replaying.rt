@@ -3,7 +3,8 @@
 ghost use Rattle.std.specs.Prelude.{◌≡◌, All, length};
 ghost use Rattle.atspi_script_lines.specs.declared.limits.TheConstants.{APP_COUNT};
 ghost use Rattle.atspi_run_replay.specs.Causes.{Causes};
-ghost use Rattle.atspi_run_replay.specs.Run.{Replayed, end_status, stop_status};
+ghost use Rattle.atspi_run_replay.specs.Run.{Replayed};
+ghost use Rattle.atspi_run_replay.specs.inner.Run.{end_status, stop_status};
 ghost use Rattle.atspi_trace.specs.Work.{spare_count};
 
 use crate::input::{End, SCRIPT_LIMIT, read_all};

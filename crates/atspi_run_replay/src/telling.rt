@@ -7,8 +7,9 @@ ghost use Rattle.std.specs.Io.KnownBytes.{Appends};
 ghost use Rattle.atspi_base.specs.Outside.{AppendsPart};
 ghost use Rattle.atspi_trace_texts.specs.TraceText.{is_brief as keeps};
 ghost use Rattle.atspi_run_replay.specs.Names.{refused_text};
-ghost use Rattle.atspi_run_replay.specs.Play.{BlamesWrite, IfHalted, IfRefused};
-ghost use Rattle.atspi_run_replay.specs.Told.{bytes_text, told_at, told_from, told_if, told_text};
+ghost use Rattle.atspi_run_replay.specs.inner.Play.{BlamesWrite, IfHalted, IfRefused};
+ghost use Rattle.atspi_run_replay.specs.Told.{bytes_text, told_text};
+ghost use Rattle.atspi_run_replay.specs.inner.Told.{told_at, told_from, told_if};
 ghost use Rattle.atspi_world_parties.specs.Wires.{wire_bytes};
 ghost use Rattle.atspi_world.specs.Stage.{posts_of, trace_of};
 

@@ -249,6 +249,7 @@ fn a_read_that_fails_ends_behind_the_whole_lines_before_it(rt: HostRuntime) {
             most: 1,
             failing_read,
             failing_write: NEVER,
+            peers: 0,
         };
         let holds = replays(rt.alloc(), TWICE, outside, 3, shown_of(failing_read));
         assert!(rt; holds == Some(true), "behind {failing_read} bytes");
@@ -262,6 +263,7 @@ fn is_cut(alloc: Global, script: &[u8], written: u64, output: &[u8]) -> Option<b
         most: 1,
         failing_read: NEVER,
         failing_write: written,
+        peers: 0,
     };
     let due = output.get(..written as usize).unwrap_or(output);
     replays(alloc, script, outside, 4, due)
@@ -287,6 +289,7 @@ fn is_same_in_pieces(alloc: Global, most: usize) -> bool {
         most,
         failing_read: NEVER,
         failing_write: NEVER,
+        peers: 0,
     };
     replays(alloc, TWICE, outside, 0, SHOWN) == Some(true)
         && replays(alloc, b"frob\n", outside, 1, b"refused 1 Form\n") == Some(true)
@@ -331,6 +334,7 @@ fn ran_with(
         most,
         failing_read: NEVER,
         failing_write,
+        peers: 0,
     };
     ran(alloc, &list, input.to_vec(alloc).ok()?, outside)
 }

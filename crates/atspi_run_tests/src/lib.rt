@@ -4,6 +4,8 @@
 #[cfg(test)]
 mod edge_tests;
 #[cfg(test)]
+mod live_tests;
+#[cfg(test)]
 mod rows;
 #[cfg(test)]
 mod running;

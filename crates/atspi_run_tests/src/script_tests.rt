@@ -40,6 +40,7 @@ const BROKEN: [Broken; 3] = [
             most: usize::MAX,
             failing_read: 0,
             failing_write: NEVER,
+            peers: 0,
         },
         3,
         "",
@@ -50,6 +51,7 @@ const BROKEN: [Broken; 3] = [
             most: usize::MAX,
             failing_read: 1,
             failing_write: NEVER,
+            peers: 0,
         },
         3,
         "start a0 \"Demo\"\nsent a0 call l 0 1 path=/org/freedesktop/DBus interface=org.freedesktop.DBus member=Hello destination=org.freedesktop.DBus\n",
@@ -60,6 +62,7 @@ const BROKEN: [Broken; 3] = [
             most: usize::MAX,
             failing_read: NEVER,
             failing_write: 0,
+            peers: 0,
         },
         4,
         "",
@@ -281,6 +284,7 @@ fn a_text_that_cannot_be_written_gives_status_4(rt: HostRuntime) {
         most: 5,
         failing_read: NEVER,
         failing_write: 1,
+        peers: 0,
     };
     let due = Due {
         status: 4,

@@ -2,7 +2,8 @@ use Rattle.std.proofs.Common.{◌≡◌, ℕ, ◌+◌, ◌-◌, List, [], length
 use Rattle.atspi_live_host.specs.Calls.{IsOpen}
 use Rattle.atspi_live_conversation.proofs.StepLemmas.{at_first, may_begin}
 use Rattle.atspi_live_app.specs.Lines.{lines_of}
-use Rattle.atspi_live_app.specs.Live.{IsMarked, aside_of}
+use Rattle.atspi_live_app.specs.Live.{IsMarked}
+use Rattle.atspi_live_app.specs.inner.Live.{aside_of}
 use Rattle.atspi_live_app.specs.declared.over.Over.TheVariants.{Ended}
 use Rattle.atspi_live_conversation.specs.declared.ending.Ending.TheVariants.{RoundsDone}
 use Rattle.atspi_live_conversation.specs.Rounds.{IsRound, Makes}

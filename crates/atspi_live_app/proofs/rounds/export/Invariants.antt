@@ -2,7 +2,7 @@ use Rattle.std.proofs.Common.{◌≡◌, ℕ, ◌-◌, ◌*◌, ◌≤◌, List,
 use Rattle.atspi_live_conversation.specs.Talking.{Going, MaySpeak, heard_in}
 use Rattle.atspi_live_conversation.specs.Rounds.{Makes}
 use Rattle.atspi_live_app.specs.Lines.{lines_of}
-use Rattle.atspi_live_app.specs.Live.{aside_of}
+use Rattle.atspi_live_app.specs.inner.Live.{aside_of}
 use Rattle.atspi_live_app.proofs.Pacing.{Paced}
 use Rattle.atspi_live_app.proofs.Rounding.{TurnRounds}
 use Rattle.atspi_live_app.proofs.Turning.{StandsOf}

@@ -1,7 +1,8 @@
 use Rattle.std.proofs.Common.{length, refl, rules}
 use Rattle.atspi_live_conversation.specs.Speech.{envelopes}
 use Rattle.atspi_live_app.specs.Lines.{lines_of}
-use Rattle.atspi_live_app.specs.Live.{IsMarked, aside_of}
+use Rattle.atspi_live_app.specs.Live.{IsMarked}
+use Rattle.atspi_live_app.specs.inner.Live.{aside_of}
 use Rattle.atspi_live_app.specs.Pace.{BreaksOver}
 use Rattle.atspi_live_app.specs.declared.over.Over.TheVariants.{Stopped}
 use Rattle.atspi_live_conversation.proofs.RoundLemmas.{makes_none}

@@ -1,9 +1,10 @@
-use Rattle.std.proofs.Common.{◌≡◌, ℕ, List, subst, ◌∙◌}
+use Rattle.std.proofs.Common.{◌≡◌, ℕ, List, subst, ◌∙◌, inl, inr}
 use Rattle.atspi_live_conversation.proofs.Running.{connected, on_link}
 use Rattle.atspi_live_app.specs.Lines.{lines_of}
 use Rattle.atspi_live_app.specs.Rounds.{RunsPaced}
 use Rattle.atspi_live_app.specs.Runs.{TextEnds}
 use Rattle.atspi_live_app.proofs.Ending.{ended}
+use Rattle.atspi_live_app.proofs.Statuses.{over_known}
 use Rattle.atspi_live_app.proofs.run.run_on.Goals as goal
 
 pub returns-clause-ends : goal.returns-clause-ends
@@ -18,3 +19,6 @@ returns-clause-ends g c =
     (RunsPaced (lines_of c.new-end.result.input.text.items) c.in-Done.link c.export-over.result c.args.rounds)
     c.requires.calls c.in-Done.ensures.calls c.export-over.ensures.paced)
     c.tell.ensures.reports)
+
+pub returns-clause-known : goal.returns-clause-known
+returns-clause-known g c = over_known c.export-over.result c.tell.result (g.K.Sink.written c.args.sink.now) (g.K.Sink.written c.tell.new.sink) c.tell.ensures.reports

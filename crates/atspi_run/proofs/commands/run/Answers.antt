@@ -1,5 +1,12 @@
-use Rattle.std.proofs.Common.{inl, inr, map, string_bytes}
+use Rattle.std.proofs.Common.{List, ℕ, chars, inl, inr, map, string_bytes, refl, sym}
+use Rattle.atspi_run_live.specs.Serves.{ServesApp, ServesBus, ServesReader, ServesRegistry}
+use Rattle.atspi_run_live.specs.declared.words.Service.TheVariants as services
+use Rattle.atspi_run_replay.proofs.Completing.{ends_well}
+use Rattle.atspi_run.specs.declared.words.Task.TheVariants.{Replay, Make}
 use Rattle.atspi_run.proofs.CommandLemmas.{causes_of_check, check_is_not_2}
+use Rattle.atspi_run.proofs.LiveLemmas.{not_check_and_live, not_task_and_live, not_told_and_live, path_of}
+use Rattle.atspi_run_live.proofs.OfServing.{serving_is_not_2}
+use Rattle.atspi_run_live.proofs.OfWords.{same_live}
 use Rattle.atspi_run.proofs.TaskLemmas.{may_do, not_make, not_replay, task_is_command, task_is_not_2, task_is_not_check, task_is_not_told, task_made, task_replayed}
 use Rattle.atspi_run.proofs.WordLemmas.{check_is_not_told, no_command, not_if, not_make_and_check, not_replay_and_check}
 use Rattle.atspi_run.proofs.commands.run.Goals as goal
@@ -17,10 +24,17 @@ returns-in-Some g c =
       replayed = task_replayed words task _ _ _ _ _ is did;
       made = task_made words task _ _ _ _ _ is did;
       checked = λ also. absurd (task_is_not_check words task is also);
+      bus = λ path rounds also. absurd (not_task_and_live words task services.Bus path rounds is also);
+      registry = λ path rounds also. absurd (not_task_and_live words task services.Registry path rounds is also);
+      app = λ path rounds also. absurd (not_task_and_live words task services.App path rounds is also);
+      read = λ path rounds also. absurd (not_task_and_live words task services.Read path rounds is also);
+      uncalled = λ none. refl;
       told = λ text asks. absurd (task_is_not_told words task text is asks);
       usage = λ none. absurd (none (task_is_command words task is));
       words = λ two command. task_is_not_2 task _ _ _ _ _ did two;
       causes = c.do_task.ensures.causes;
+      complete = λ options also unread unwritten.
+          ends_well options _ _ _ _ _ _ _ _ _ _ (task_replayed words task _ _ _ _ _ is did options also) c.do_task.ensures.causes unread unwritten;
     }
 
 pub returns-then-is_alone : goal.returns-then-is_alone
@@ -31,10 +45,55 @@ returns-then-is_alone g c =
       replayed = λ options also. absurd (not_replay_and_check words options also is);
       made = λ count seed also. absurd (not_make_and_check words count seed also is);
       checked = λ also. c.check.ensures.checked;
+      bus = λ path rounds also. absurd (not_check_and_live words services.Bus path rounds is also);
+      registry = λ path rounds also. absurd (not_check_and_live words services.Registry path rounds is also);
+      app = λ path rounds also. absurd (not_check_and_live words services.App path rounds is also);
+      read = λ path rounds also. absurd (not_check_and_live words services.Read path rounds is also);
+      uncalled = λ none. refl;
       told = λ text asks. absurd (check_is_not_told words text is asks);
       usage = λ none. absurd (none (inr (inr (inl is))));
       words = λ two command. check_is_not_2 _ _ _ _ _ _ c.check.ensures.checked two;
       causes = causes_of_check _ _ _ _ _ c.check.ensures.causes;
+      complete = λ options also. absurd (not_replay_and_check words options also is);
+    }
+
+pub serve-requires : goal.serve-requires
+serve-requires g c =
+    let live = c.in-Some-live_in.live in
+    record {
+      path = path_of (map string_bytes c.args.words.now) live.service live.path.now live.rounds c.in-Some-live_in.ensures;
+      begins = c.requires.begins;
+      links = c.requires.links;
+    }
+
+pub returns-in-Some-live_in : goal.returns-in-Some-live_in
+returns-in-Some-live_in g c =
+    let words = map string_bytes c.args.words.now in
+    let live = c.in-Some-live_in.live in
+    let is = c.in-Some-live_in.ensures in
+    let did = c.serve.ensures in
+    record {
+      replayed = λ options also. absurd (not_task_and_live words (Replay options) live.service live.path.now live.rounds also is);
+      made = λ count seed also. absurd (not_task_and_live words (Make record { count = count; seed = seed }) live.service live.path.now live.rounds also is);
+      checked = λ also. absurd (not_check_and_live words live.service live.path.now live.rounds also is);
+      bus = λ path rounds also.
+          let same = same_live words live.service services.Bus live.path.now path live.rounds rounds is also in
+          rw (sym same.1, sym same.2) (did.bus same.0);
+      registry = λ path rounds also.
+          let same = same_live words live.service services.Registry live.path.now path live.rounds rounds is also in
+          rw (sym same.1, sym same.2) (did.registry same.0);
+      app = λ path rounds also.
+          let same = same_live words live.service services.App live.path.now path live.rounds rounds is also in
+          rw (sym same.1, sym same.2) (did.app same.0);
+      read = λ path rounds also.
+          let same = same_live words live.service services.Read live.path.now path live.rounds rounds is also in
+          rw (sym same.1, sym same.2) (did.read same.0);
+      uncalled = λ none. absurd (none (live.service, live.path.now, live.rounds, is));
+      told = λ text asks. absurd (not_told_and_live words text live.service live.path.now live.rounds asks is);
+      usage = λ none. absurd (none (inr (inr (inr (inr (live.service, live.path.now, live.rounds, is))))));
+      words = λ two command. serving_is_not_2 _ did.known two;
+      causes = causes_of_check _ _ _ _ _ did.causes;
+      complete = λ options also. absurd (not_task_and_live words (Replay options) live.service live.path.now live.rounds also is);
     }
 
 pub returns : goal.returns
@@ -43,12 +102,19 @@ returns g c =
     let no_check = not_if c.is_alone.result c.if-is_alone.false c.is_alone.ensures.1 in
     let no_replay = not_replay words c.in_default.ensures in
     let no_make = not_make words c.in_default.ensures in
+    let no_live = c.in_default-live_in.ensures in
     record {
       replayed = λ options also. absurd (no_replay options also);
       made = λ count seed also. absurd (no_make count seed also);
       checked = λ also. absurd (no_check also);
+      bus = λ path rounds also. absurd (no_live services.Bus path rounds also);
+      registry = λ path rounds also. absurd (no_live services.Registry path rounds also);
+      app = λ path rounds also. absurd (no_live services.App path rounds also);
+      read = λ path rounds also. absurd (no_live services.Read path rounds also);
+      uncalled = λ none. refl;
       told = c.tell.ensures.told;
-      usage = λ none. c.tell.ensures.usage (λ told. none (inr (inr (inr told))));
-      words = λ two command. no_command _ words _ _ no_replay no_make no_check c.tell.ensures.told two command;
+      usage = λ none. c.tell.ensures.usage (λ told. none (inr (inr (inr (inl told)))));
+      words = λ two command. no_command _ words _ _ no_replay no_make no_check no_live c.tell.ensures.told two command;
       causes = c.tell.ensures.causes (g.S.Source.faults c.args.source.now);
+      complete = λ options also. absurd (no_replay options also);
     }

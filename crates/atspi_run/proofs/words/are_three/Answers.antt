@@ -1,6 +1,6 @@
 use Rattle.std.proofs.Common.{◌≡◌, ◌&&◌, ◌↔◌, ℕ, Bool, true, false, List, [], ◌∷◌, map, refl, sym, ap, ◌∙◌, arith, string_bytes, IsTrue}
 use Rattle.std.proofs.lemmas.Bool.{false≢true}
-use Rattle.atspi_run.proofs.WordLemmas.{only_three}
+use Rattle.atspi_run_live.proofs.OfWords.{only_three}
 use Rattle.atspi_run.proofs.words.are_three.Goals as goal
 
 tells : (x y z all : Bool) (a b c one two three : List ℕ) (words : List (List ℕ)) → all ≡ x && (y && z) → IsTrue x ↔ (a ≡ one) → IsTrue y ↔ (b ≡ two) → IsTrue z ↔ (c ≡ three) → words ≡ a ∷ b ∷ c ∷ []

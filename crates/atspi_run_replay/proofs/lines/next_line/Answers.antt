@@ -1,7 +1,8 @@
 use Rattle.std.proofs.Common.{◌≡◌, ◌∙◌, ℕ, Bool, List, [], ◌∷◌, ◌<◌, arith, length, add-one, rules, true, false, refl}
 use Rattle.std.proofs.lemmas.List.{take_rest, drop_all}
 use Rattle.atspi_run_replay.proofs.LineLemmas.{NoFeed, first_line, last_line, no_whole}
-use Rattle.atspi_run_replay.specs.Lines.{FirstLine, lines_read}
+use Rattle.atspi_run_replay.specs.Lines.{lines_read}
+use Rattle.atspi_run_replay.specs.inner.Lines.{FirstLine}
 use Rattle.atspi_run_replay.proofs.lines.next_line.Goals.{else-ended-via-then-ended+else-not-is_empty, else-ended-via-else-ended}
 use Rattle.atspi_run_replay.proofs.lines.next_line.Goals as goal
 

@@ -2,7 +2,7 @@ use Rattle.std.proofs.Common.{◌<◌, ◌-◌}
 use Rattle.atspi_world.specs.Stage.{IsStage, trace_of}
 use Rattle.atspi_world.specs.Worlds.{staged}
 use Rattle.atspi_trace.specs.Entry.{entries_of}
-use Rattle.atspi_run_replay.specs.Made.{AreSeen, HasDrawn}
+use Rattle.atspi_run_replay.specs.inner.Made.{AreSeen, HasDrawn}
 use Rattle.atspi_run_replay.proofs.making.make_edits.Given as goal
 
 abbrev pub invariant-loop-number : goal.invariant-loop-number

@@ -1,6 +1,6 @@
 use Rattle.std.proofs.Common.{subst, sym}
 use Rattle.std.proofs.lemmas.Result.{err_from_is_err_and}
-use Rattle.atspi_run_replay.specs.Made.{ScriptStops}
+use Rattle.atspi_run_replay.specs.inner.Made.{ScriptStops}
 use Rattle.atspi_run_replay.proofs.Script.{opened}
 use Rattle.atspi_run_replay.proofs.making.make_in.Goals as goal
 

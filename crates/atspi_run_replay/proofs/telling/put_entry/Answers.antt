@@ -1,7 +1,8 @@
 use Rattle.std.proofs.Common.{◌++◌, ap, sym, ◌∙◌, append-nil}
 use Rattle.std.specs.Prelude.{slice_get}
 use Rattle.std.proofs.lemmas.Result.{on_ok_weaker}
-use Rattle.atspi_run_replay.specs.Told.{told_if, told_text}
+use Rattle.atspi_run_replay.specs.Told.{told_text}
+use Rattle.atspi_run_replay.specs.inner.Told.{told_if}
 use Rattle.atspi_run_replay.proofs.telling.put_entry.Goals as goal
 
 pub put_event-requires : goal.put_event-requires

@@ -1,6 +1,7 @@
 use Rattle.std.proofs.Common.{sym, ◌∙◌, ap, ◌++◌}
 use Rattle.std.proofs.lemmas.Result.{on_ok_weaker}
-use Rattle.atspi_run_replay.specs.Told.{bytes_text, told_at}
+use Rattle.atspi_run_replay.specs.Told.{bytes_text}
+use Rattle.atspi_run_replay.specs.inner.Told.{told_at}
 use Rattle.atspi_run_replay.proofs.TellLemmas.{bytes_here, not_false, not_true, tells_bytes, tells_event, tells_nothing}
 use Rattle.atspi_run_replay.proofs.telling.put_event.Goals as goal
 

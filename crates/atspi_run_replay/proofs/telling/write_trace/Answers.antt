@@ -1,6 +1,6 @@
 use Rattle.std.proofs.Common.{◌≤◌, length, refl, subst, ◌∙◌}
 use Rattle.std.proofs.lemmas.Result.{on_ok_weaker, on_err_weaker}
-use Rattle.atspi_run_replay.specs.Told.{told_from}
+use Rattle.atspi_run_replay.specs.inner.Told.{told_from}
 use Rattle.atspi_run_replay.proofs.Pending.{pending_end, pending_next, pending_part, pending_piece, pending_start, pending_stop}
 use Rattle.atspi_run_replay.proofs.TellLemmas.{from_end}
 use Rattle.atspi_run_replay.proofs.telling.write_trace.Goals as goal

@@ -1,6 +1,6 @@
 use Rattle.std.proofs.Common.{◌≡◌}
 use Rattle.atspi_world.specs.Stage.{trace_of, posts_of}
-use Rattle.atspi_run_replay.specs.Told.{told_from}
+use Rattle.atspi_run_replay.specs.inner.Told.{told_from}
 use Rattle.atspi_run_replay.proofs.Pending.{Pending}
 use Rattle.atspi_run_replay.proofs.telling.write_trace.Given as goal
 

@@ -3,7 +3,7 @@ use Rattle.std.specs.Prelude.{Ok, Err}
 use Rattle.atspi_live_app.specs.Live.{IsMarked, IsStopped, Stands}
 use Rattle.atspi_live_app.specs.Lines.{lines_of}
 use Rattle.atspi_live_app.proofs.Lawful.{lawful_as, passes_as}
-use Rattle.atspi_live_app.specs.Input.{Passes}
+use Rattle.atspi_live_app.specs.inner.Input.{Passes}
 use Rattle.atspi_live_app.proofs.Pacing.{none_proceeds, proceeds}
 use Rattle.atspi_live_app.proofs.Stood.{stands_did, stands_passed}
 use Rattle.atspi_live_app.proofs.Turning.{stands_as, stands_in, then_of}

@@ -4,7 +4,8 @@ use Rattle.atspi_live_host.specs.declared.call.Did.{Did}
 use Rattle.atspi_live_host.specs.declared.call.Did.TheVariants.{End, NotYet}
 use Rattle.atspi_live_conversation.proofs.LineLemmas.{none_behind}
 use Rattle.atspi_live_reader.specs.Spoken.{IsSpoken}
-use Rattle.atspi_live_reader.specs.Cases.{hail, hello}
+use Rattle.atspi_live_reader.specs.Cases.{hail}
+use Rattle.atspi_live_reader.specs.inner.Cases.{hello}
 use Rattle.atspi_live_reader.proofs.FirstRounds.{in_order}
 use Rattle.atspi_live_reader.proofs.Started.{first_is, none_spoken, not_said_first, said_first}
 use Rattle.atspi_protocol.specs.following.ReaderState.{sends}
