@@ -428,7 +428,7 @@ line_free w (Turns count) = refl
 line_free w Drain = refl
 line_free w (Show reader app) = conn_free (conn_of w.ends (Reader reader)) (λ conn. shows conn app) (λ k. refl)
 
-no_freed : (w : World) (line : Line) (c : Cause) → work_of w line ≡ doing c → freed c ≡ None
+pub no_freed : (w : World) (line : Line) (c : Cause) → work_of w line ≡ doing c → freed c ≡ None
 no_freed w line c is = sym (ap freed_in is) ∙ line_free w line
 
 -- FRONTS of a trace that meets the law of readers

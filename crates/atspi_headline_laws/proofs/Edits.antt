@@ -1,27 +1,21 @@
--- THE LAW OF STEPS, but for what an application does with a message: behind an edit's line stand the steps of that edit of the live tree, and no
--- step stands behind anything else that no application takes.
+-- THE LAW OF STEPS: behind an edit's line stand the steps of that edit of the live tree, behind a call that an application takes those of its answer,
+-- and no step stands behind anything else.
 use Rattle.std.proofs.Common.{◌≡◌, ℕ, ◌+◌, Bool, true, false, List, [], ◌∷◌, ◌++◌, map, Option, None, Some, refl, sym, ap, ap₂, ◌∙◌, subst, cond}
-use Rattle.std.specs.Prelude.{◌||◌, filter, Result, Ok, Err, if◌then◌else◌}
+use Rattle.std.specs.Prelude.{filter, flat_map, Result, Ok, Err, if◌then◌else◌}
 use Rattle.std.specs.List.{AllByRecursion}
-use Rattle.std.proofs.lemmas.List.{append_assoc}
+use Rattle.std.proofs.lemmas.List.{append-nil, append_assoc}
 use Rattle.atspi_tree_model.specs.declared.edit.Edit.{Edit}
 use Rattle.atspi_tree_model.specs.declared.edit.EditFault.{EditFault}
 use Rattle.atspi_tree_model.specs.declared.step.Step.{Step}
 use Rattle.atspi_tree_model.specs.Edits.{steps_of_tree}
-use Rattle.atspi_tree_model.specs.Forest.{Forest}
-use Rattle.atspi_tree_model.specs.Row.{TreeRow}
-use Rattle.atspi_tree_model.specs.RowRules.{rows}
-use Rattle.atspi_tree_model.specs.Tree.{after as after_step}
 use Rattle.atspi_script_lines.specs.declared.line.Line.{Line}
 use Rattle.atspi_script_lines.specs.declared.line.Line.TheVariants.{Blank, Quota, App as App_line, Reader as Reader_line, Edit as Edit_line, Call, Swap, Exit, Leave, Bytes, Turns, Drain, Show}
 use Rattle.atspi_script_lines.specs.declared.line.Party.{Party}
 use Rattle.atspi_script_lines.specs.declared.line.Party.TheVariants.{Bus as The_bus, Registry, App, Reader}
 use Rattle.atspi_message.specs.Envelope.{Envelope}
-use Rattle.atspi_protocol.specs.announcing.Signals.{Signal}
-use Rattle.atspi_protocol.specs.announcing.Announced.{announced}
 use Rattle.atspi_protocol.specs.exporting.Exporter.{Happening, steps, sends, hears, deaf, Exporter, numbered, queues}
 use Rattle.atspi_protocol.specs.exporting.Starting.{name_or_empty}
-use Rattle.atspi_protocol.specs.exporting.Telling.{asked_for, steps_told}
+use Rattle.atspi_protocol.specs.exporting.Telling.{steps_told}
 use Rattle.atspi_protocol.specs.exporting.Taking.{stepped, app_edits, app_takes}
 use Rattle.atspi_protocol.specs.registering.Steps.{registry_takes}
 use Rattle.atspi_trace.specs.Entry.{Entry, changed, sent, got, heard, unheard}
@@ -31,9 +25,8 @@ use Rattle.atspi_trace.specs.Carrying as carrying
 use Rattle.atspi_trace.specs.Causes.{Cause, Done, does, did as did_so}
 use Rattle.atspi_trace.specs.Work.{Work, work_of}
 use Rattle.atspi_headline.specs.Words as here
-use Rattle.atspi_headline.specs.Words.{Act, begins_line, moves_bytes, takes_end, writes, entries_in, stepping, is_a, is_done_at, is_done, reaction, next_of, Along, Unless}
-use Rattle.atspi_headline.specs.Headline.{steps_or_none, steps_due}
-use Rattle.atspi_headline_laws.specs.Laws.{is_taken_by_app, StepsBehind, StepsFollowEdits}
+use Rattle.atspi_headline.specs.Words.{Act, begins_line, moves_bytes, takes_end, writes, entries_in, stepping, is_a, is_done_at, is_done, reaction, next_of, Along, Unless, handed}
+use Rattle.atspi_headline.specs.Headline.{steps_or_none, steps_called, StepsAre, steps_due, LawOfSteps}
 use Rattle.atspi_trace_laws.proofs.OfOrder.Growing.{Shaped, And}
 use Rattle.atspi_trace_laws.proofs.OfOrder.Effects.{received}
 use Rattle.atspi_trace_laws.proofs.OfSteps.Steps.{TreeIs}
@@ -48,6 +41,10 @@ use Rattle.atspi_headline_laws.proofs.Dues.{along_more, along_map, unless_map}
 use Rattle.atspi_headline_laws.proofs.Acting.{LineDid, line_did, renewed, app_began, reader_began, edited_app, called_app, swapped, app_stopped, reader_stopped, showed, TurnDid, turn_did, bare_quiet, told_busy, told_quiet, bus_took, bus_ended, registry_took, app_took, reader_took, IsBareLine, bare_line}
 use Rattle.atspi_headline_laws.proofs.Sorting.{BusSorts, sent_all, of_bus_all}
 use Rattle.atspi_headline_laws.proofs.Growing.{Front, front_of, front_moved, lived_before}
+use Rattle.atspi_headline_laws.proofs.Stepping.{steps_in, steps_numbered, steps_of_told}
+use Rattle.atspi_headline_laws.proofs.Knowing.{IsKnown}
+use Rattle.atspi_headline_laws.proofs.Answering.{steps_so}
+use Rattle.atspi_headline_laws.proofs.Knows.{it_wrote, handed_it, it_tells, it_took, knows_front}
 
 -- WHAT STANDS NEXT, where no more steps stand behind
 filtered_more : (p k : Entry → Bool) (xs ys : List Act) → filter p (next_of k ys) ≡ [] → filter p (next_of k (xs ++ ys)) ≡ filter p (next_of k xs)
@@ -77,18 +74,21 @@ none_next k (e ∷ es) a = by (k e) (none_next k es a.1)
     by true h = ap (λ c. cond c (e ∷ filter (is_a stepping) (next_of k (map writes es))) (filter (is_a stepping) (next_of k (map writes es)))) a.0 ∙ h
 
 -- THE LAW grows
-steps_more : (run acts : List Act) → filter (is_a stepping) (reaction acts) ≡ [] → StepsFollowEdits run → Along StepsBehind run acts → StepsFollowEdits (run ++ acts)
+abbrev StepsBehind : List Act → Act → List Act → Type 0
+StepsBehind before act behind = Unless (is_done act) (StepsAre false behind (steps_due before act))
+
+steps_more : (run acts : List Act) → filter (is_a stepping) (reaction acts) ≡ [] → LawOfSteps false run → Along StepsBehind run acts → LawOfSteps false (run ++ acts)
 steps_more run acts none old new =
     along_more StepsBehind [] run acts
     (along_map StepsBehind (λ before act behind. StepsBehind before act (behind ++ acts)) [] run
-    (λ before act behind law. unless_map (is_done act || is_taken_by_app act) (filter (is_a stepping) (reaction behind) ≡ steps_due before act) (filter (is_a stepping) (reaction (behind ++ acts)) ≡ steps_due before act)
+    (λ before act behind law. unless_map (is_done act) (filter (is_a stepping) (reaction behind) ≡ steps_due before act) (filter (is_a stepping) (reaction (behind ++ acts)) ≡ steps_due before act)
     (λ h. filtered_more (is_a stepping) is_done_at behind acts none ∙ h) law) old)
     new
 
 -- entries behind which no step is due, and of which none is one
 pub record Calm (entry : Entry) : Type 0 where
   pub no_step : NoStep entry
-  pub nothing : (before : List Act) → Unless (is_done (writes entry) || is_taken_by_app (writes entry)) ([] ≡ steps_due before (writes entry))
+  pub nothing : (before : List Act) → Unless (is_done (writes entry)) ([] ≡ steps_due before (writes entry))
 
 no_steps : (es : List Entry) → AllByRecursion Calm es → AllByRecursion NoStep es
 no_steps [] a = tt
@@ -97,7 +97,7 @@ no_steps (e ∷ es) a = (a.0.no_step, no_steps es a.1)
 calm_along : (before : List Act) (es : List Entry) → AllByRecursion Calm es → Along StepsBehind before (map writes es)
 calm_along before [] a = tt
 calm_along before (e ∷ es) a = (
-  unless_map (is_done (writes e) || is_taken_by_app (writes e)) ([] ≡ steps_due before (writes e)) (filter (is_a stepping) (reaction (map writes es)) ≡ steps_due before (writes e))
+  unless_map (is_done (writes e)) ([] ≡ steps_due before (writes e)) (filter (is_a stepping) (reaction (map writes es)) ≡ steps_due before (writes e))
       (λ h. none_next is_done_at es (no_steps es a.1) ∙ h) (a.0.nothing before),
   calm_along (before ++ writes e ∷ []) es a.1,
 )
@@ -131,39 +131,12 @@ moves_none (begins_line line ∷ acts) m = absurd m
 moves_none (writes entry ∷ acts) m = absurd m
 
 -- THE STEPS of what an application did
-steps_in : List Happening → List Step
-steps_in [] = []
-steps_in (steps step ∷ hs) = step ∷ steps_in hs
-steps_in (sends e ∷ hs) = steps_in hs
-steps_in (hears listener pattern ∷ hs) = steps_in hs
-steps_in (deaf listener pattern ∷ hs) = steps_in hs
-
 did_next : (a : ℕ) (hs : List Happening) → filter (is_a stepping) (reaction (map writes (map (did_so a) hs))) ≡ map (changed a) (steps_in hs)
-unfolding steps_in
 did_next a [] = refl
 did_next a (steps step ∷ hs) = ap (λ l. changed a step ∷ l) (did_next a hs)
 did_next a (sends e ∷ hs) = did_next a hs
 did_next a (hears listener pattern ∷ hs) = did_next a hs
 did_next a (deaf listener pattern ∷ hs) = did_next a hs
-
-steps_numbered : (n : ℕ) (hs : List Happening) → steps_in (numbered n hs) ≡ steps_in hs
-unfolding steps_in
-steps_numbered n [] = refl
-steps_numbered n (steps step ∷ hs) = ap (λ l. step ∷ l) (steps_numbered n hs)
-steps_numbered n (sends e ∷ hs) = steps_numbered (n + 1) hs
-steps_numbered n (hears listener pattern ∷ hs) = steps_numbered n hs
-steps_numbered n (deaf listener pattern ∷ hs) = steps_numbered n hs
-
-steps_behind_signals : (signals : List Signal) (hs : List Happening) → steps_in (map (λ (s : Signal). sends s.message) signals ++ hs) ≡ steps_in hs
-unfolding steps_in
-steps_behind_signals [] hs = refl
-steps_behind_signals (s ∷ signals) hs = steps_behind_signals signals hs
-
-steps_of_told : (pairs : List (List ℕ × List ℕ)) (name : List ℕ) (f : Forest TreeRow) (ss : List Step) → steps_in (steps_told pairs name f ss) ≡ ss
-unfolding steps_in
-steps_of_told pairs name f [] = refl
-steps_of_told pairs name f (step ∷ ss) =
-    ap (λ l. step ∷ l) (steps_behind_signals (asked_for pairs (announced name f step)) (steps_told pairs name (after_step rows f step) ss) ∙ steps_of_told pairs name (after_step rows f step) ss)
 
 abbrev step_result : Exporter → Result (List Step) EditFault → Result Exporter EditFault
 step_result s (Ok ss) = Ok (queues (stepped s ss) (steps_told s.heard (name_or_empty s.name) s.tree ss))
@@ -280,12 +253,19 @@ turn_steps front w _ _ f (registry_took d b) =
       sent_all Calm b.e.who (λ e. calm_sent b.e.who e) (registry_takes b.before b.letter.said.message).sent,
     ))
 turn_steps front w _ _ f (app_took d b) =
-    let n : ℕ = number_of (party_at (received w b.conn b.e b.letter).ends b.conn) in
-    let wrote : d.entries ≡ got (App b.app) b.letter.from b.letter.said.message.serial ∷ map (did_so n) (app_takes b.before b.letter.said.message).out =
-    ap (λ (x : Done). x.entries) b.is ∙ ap (λ p. got p b.letter.from b.letter.said.message.serial ∷ map (did_so n) (app_takes b.before b.letter.said.message).out) b.whose in
-    subst (TurnSteps front) (sym wrote) (record {
+    let out : List Happening = (app_takes b.before b.letter.said.message).out in
+    let serial : ℕ = b.letter.said.message.serial in
+    let known : IsKnown front b.app b.before = (knows_front front w None f).0 b.conn b.app b.e b.before b.is_here.there b.whose b.role b.is_here.standing in
+    let steps_are : steps_in out ≡ steps_called front b.app b.letter.said.message =
+    steps_so front b.app b.before b.letter.said.message (it_tells front w f d b known) (app_takes b.before b.letter.said.message) (it_took front w f d b) in
+    let called : flat_map (steps_called front b.app) (handed front b.letter.from serial) ≡ steps_called front b.app b.letter.said.message =
+    ap (flat_map (steps_called front b.app)) (handed_it front w f d b) ∙ append-nil (steps_called front b.app b.letter.said.message) in
+    subst (TurnSteps front) (sym (it_wrote front w f d b)) (record {
       first = refl;
-      along = (tt, done_along (front ++ writes (got (App b.app) b.letter.from b.letter.said.message.serial) ∷ []) n (app_takes b.before b.letter.said.message).out);
+      along = (
+        did_next b.app out ∙ ap (map (changed b.app)) (steps_are ∙ sym called),
+        done_along (front ++ writes (got (App b.app) b.letter.from serial) ∷ []) b.app out,
+      );
     })
 turn_steps front w _ _ f (reader_took d b) =
     calm_turn front d.entries
@@ -309,7 +289,7 @@ bare_none run (Exit app) b = refl
 bare_none run (Leave reader) b = refl
 bare_none run (Show reader app) b = refl
 
-pub steps_follow : (run : List Act) (w : World) (free : Option ℕ) (at : Option Work) → Ran run w free at → Lives (entries_in run) → StepsFollowEdits run
+pub steps_follow : (run : List Act) (w : World) (free : Option ℕ) (at : Option Work) → Ran run w free at → Lives (entries_in run) → LawOfSteps false run
 steps_follow _ _ _ _ nothing_yet live = tt
 steps_follow _ _ _ _ (did run w line c r ok can is a) live =
     let before : Lives (entries_in run) = lived_before run (begins_line line ∷ map writes (does w c).entries) live in
@@ -326,7 +306,7 @@ steps_follow _ _ _ _ (caused run w free work left c r is b a) live =
     let front : List Act = run ++ moves_for w work c in
     let t : TurnSteps front (does w c).entries =
     turn_steps front w c (does w c) (front_moved run (moves_for w work c) w free m (front_of run w free (Some work) r before)) (turn_did w c (shape_along run w free (Some work) r) (bare_quiet w work left c b is) a) in
-    subst StepsFollowEdits (append_assoc run (moves_for w work c) (map writes (does w c).entries))
+    subst (LawOfSteps false) (append_assoc run (moves_for w work c) (map writes (does w c).entries))
     (steps_more front (map writes (does w c).entries) t.first
     (steps_more run (moves_for w work c) (moves_none (moves_for w work c) m) (steps_follow run w free (Some work) r before) (moves_calm run (moves_for w work c) m)) t.along)
 steps_follow _ _ _ _ (rested run w v free work r is m well) live = steps_follow run w free (Some work) r live

@@ -102,7 +102,7 @@ more_ends run acts w v n one more i =
     ∙ ap (λ l. Registry ∷ l) (sym (starts_more run acts ∙ ap (λ l. filter_map start_in run ++ l) one))
 
 -- a world begins anew where nobody joined
-few_starts : (run : List Act) (w : World) → EndsAre run w → length w.ends ≤ 1 → filter_map start_in run ≡ []
+pub few_starts : (run : List Act) (w : World) → EndsAre run w → length w.ends ≤ 1 → filter_map start_in run ≡ []
 few_starts run w i few = by (filter_map start_in run) refl
   where
     sizes : (es : List End) → length (parties es) ≡ length es
@@ -137,7 +137,7 @@ line_ends run w line _ s i (reader_stopped reader d b who) =
     (subst (λ (x : Done). parties x.world.ends ≡ parties w.ends) (sym b.is) (with_parties stops (λ x. refl) b.conn w.ends)) i
 line_ends run w line d s i (showed reader app conn e hearer there who role) = same_ends run (begins_line line ∷ map writes d.entries) w d.world refl refl i
 
-turn_parties : (w : World) (c : Cause) (d : Done) → TurnDid w c d → parties d.world.ends ≡ parties w.ends
+pub turn_parties : (w : World) (c : Cause) (d : Done) → TurnDid w c d → parties d.world.ends ≡ parties w.ends
 turn_parties w _ _ (told_busy turns) = refl
 turn_parties w _ _ (told_quiet none) = refl
 turn_parties w _ _ (bus_took d b) = over_parties w.ends d.world.ends (bus_takes_over w d b)

@@ -21,8 +21,17 @@ pub mod Starts
 pub mod Registering
 pub mod Gone
 pub mod Over
+pub mod Stepping
+pub mod Knowing
+pub mod Receiving
+pub mod Answering
+pub mod Knows
 pub mod Edits
+pub mod Heard
 pub mod Replied
 pub mod Words
 pub mod Calling
+pub mod Saying
+pub mod Replying
+pub mod Applied
 pub mod Proving

@@ -11,8 +11,8 @@ use Rattle.atspi_trace.specs.Ends.{is_here}
 use Rattle.atspi_trace.specs.Work.{Work}
 use Rattle.atspi_trace.specs.Due.{is_lost}
 use Rattle.atspi_headline.specs.Words.{Act, lines_in, entries_in}
-use Rattle.atspi_headline.specs.Headline.{LawOfShownRows, LawOfSpokenLines, LawOfExits}
-use Rattle.atspi_trace_laws.specs.laws.NineLaws.{LawOfReaders, LawOfDroppedEnds}
+use Rattle.atspi_headline.specs.Headline.{LawOfSteps, LawOfApplications, LawOfReaders, LawOfShownRows, LawOfSpokenLines, LawOfExits}
+use Rattle.atspi_trace_laws.specs.laws.NineLaws.{LawOfReaders as ReadersHold, LawOfDroppedEnds}
 use Rattle.atspi_trace_laws.proofs.OfReaders.LawReaders.{readers_law}
 use Rattle.atspi_trace_laws.proofs.OfDrops.LawDrops.{drops_law}
 use Rattle.atspi_trace_laws.specs.order.Scripts.{CanStand, CanAllStand}
@@ -25,7 +25,8 @@ use Rattle.atspi_trace_laws.proofs.OfOrder.Acts.{IsActive}
 use Rattle.atspi_trace_laws.proofs.OfOrder.Shaped.{one_end}
 use Rattle.atspi_trace_laws.proofs.OfOrder.Lives.{Started, here_lives, starts_keep}
 use Rattle.atspi_trace_laws.proofs.OfOwn.Writing.{Lives}
-use Rattle.atspi_headline_laws.specs.Laws.{IsSpelled, OfEachTrace, StartsFollowTheirLines, StepsFollowEdits, NothingFollowsADrop, RegistrySendsItsStep, ReadersCallInTurn, ProvedLaws}
+use Rattle.atspi_headline_laws.specs.Laws.{IsSpelled, OfEachTrace, StartsFollowTheirLines, NothingFollowsADrop, RegistrySendsItsStep, ApplicationsHear, ReadersCallInTurn, ProvedLaws}
+use Rattle.atspi_headline_laws.proofs.Applied.{apps_say}
 use Rattle.atspi_headline_laws.proofs.Ran.{Ran}
 use Rattle.atspi_headline_laws.proofs.Making.{Done, Finished, made}
 use Rattle.atspi_headline_laws.proofs.Keeping.{kept_along}
@@ -36,6 +37,7 @@ use Rattle.atspi_headline_laws.proofs.Gone.{ends_are_told}
 use Rattle.atspi_headline_laws.proofs.Over.{nothing_is_of, nothing_behind_drops}
 use Rattle.atspi_headline_laws.proofs.Edits.{steps_follow}
 use Rattle.atspi_headline_laws.proofs.Starts.{begins_with_line, starts_are_due}
+use Rattle.atspi_headline_laws.proofs.Heard.{apps_do_hear}
 use Rattle.atspi_headline_laws.proofs.Registering.{registry_sends}
 use Rattle.atspi_headline_laws.proofs.Calling.{readers_call}
 
@@ -76,7 +78,7 @@ lives_so run w free at r alive =
 
 -- THE LAWS
 abbrev Kept : List Act → Type 0
-Kept run = Lives (entries_in run) × LawOfDroppedEnds (entries_in run) × LawOfReaders (entries_in run)
+Kept run = Lives (entries_in run) × LawOfDroppedEnds (entries_in run) × ReadersHold (entries_in run)
 
 pub with_run : (Laws : List Act → Type 0) → ((run : List Act) (w : World) → Ran run w None None → Kept run → Laws run) → OfEachTrace Laws
 with_run Laws law lines trace h =
@@ -89,7 +91,7 @@ with_run Laws law lines trace h =
       keeps = law d.run x.0 d.ran (
         lives_so d.run x.0 None None d.ran x.2,
         subst LawOfDroppedEnds (sym d.has_entries) (drops_law lines trace (can_all_stand lines h.spelled) h.lawful.goes),
-        subst LawOfReaders (sym d.has_entries) (readers_law lines trace (can_all_stand lines h.spelled) h.lawful.goes),
+        subst ReadersHold (sym d.has_entries) (readers_law lines trace (can_all_stand lines h.spelled) h.lawful.goes),
       );
     }
 
@@ -99,12 +101,15 @@ starts_follow run w r k = record { begins = begins_with_line run w None None r; 
 exits_follow : (run : List Act) (w : World) → Ran run w None None → Kept run → LawOfExits false run
 exits_follow run w r k = record { exits = exits_are_due run w None None r k.0; told = ends_are_told run w None None r k.0; over = nothing_is_of run w None None r k.0 }
 
+readers_follow : (run : List Act) (w : World) → Ran run w None None → Kept run → LawOfReaders false run
+readers_follow run w r k = record { registry_sends = registry_sends run w None None r k.0; apps_hear = apps_do_hear run w None None r k.0; readers_call = readers_call run w None None r k.0 k.2 }
+
 all_laws : (run : List Act) (w : World) → Ran run w None None → Kept run → ProvedLaws run
 all_laws run w r k = record {
   starts = starts_follow run w r k;
-  edits = steps_follow run w None None r k.0;
-  registry = registry_sends run w None None r k.0;
-  readers = readers_call run w None None r k.0 k.2;
+  steps = steps_follow run w None None r k.0;
+  applications = apps_say run w None None r k.0;
+  readers = readers_follow run w r k;
   shown = rows_are_shown run w None None r k.0;
   spoken = lines_are_spoken run w None None r k.0;
   exits = exits_follow run w r k;
@@ -117,11 +122,17 @@ keep_laws = with_run (λ run. ProvedLaws run) all_laws
 pub starts_do : OfEachTrace (λ run. StartsFollowTheirLines run)
 starts_do = with_run (λ run. StartsFollowTheirLines run) starts_follow
 
-pub edits_do : OfEachTrace StepsFollowEdits
-edits_do = with_run StepsFollowEdits (λ run w r k. steps_follow run w None None r k.0)
+pub applications_do : OfEachTrace (λ run. LawOfApplications false run)
+applications_do = with_run (λ run. LawOfApplications false run) (λ run w r k. apps_say run w None None r k.0)
+
+pub steps_do : OfEachTrace (λ run. LawOfSteps false run)
+steps_do = with_run (λ run. LawOfSteps false run) (λ run w r k. steps_follow run w None None r k.0)
 
 pub registry_does : OfEachTrace RegistrySendsItsStep
 registry_does = with_run RegistrySendsItsStep (λ run w r k. registry_sends run w None None r k.0)
+
+pub hearing_does : OfEachTrace ApplicationsHear
+hearing_does = with_run ApplicationsHear (λ run w r k. apps_do_hear run w None None r k.0)
 
 pub calls_do : OfEachTrace ReadersCallInTurn
 calls_do = with_run ReadersCallInTurn (λ run w r k. readers_call run w None None r k.0 k.2)

@@ -32,7 +32,7 @@ use Rattle.atspi_headline_laws.proofs.Growing.{Front}
 use Rattle.atspi_headline_laws.proofs.Handing.{numbers, with_bus}
 
 -- EQUAL NUMBERS, both ways round
-turned : (a b : ℕ) → (a == b) ≡ (b == a)
+pub turned : (a b : ℕ) → (a == b) ≡ (b == a)
 turned a b = by (a == b) refl
   where
     by : (t : Bool) → (a == b) ≡ t → t ≡ (b == a)
@@ -44,7 +44,7 @@ reply_same s None = refl
 reply_same s (Some n) = turned s n
 
 -- what tells an answer does not look at the sender
-abbrev answers_so : (ℕ → Bool) → ℕ → Envelope → Bool
+abbrev pub answers_so : (ℕ → Bool) → ℕ → Envelope → Bool
 answers_so kind s e = kind e.kind && following.is_reply_to s e.reply
 
 signed_so : (kind : ℕ → Bool) (s : ℕ) (p : Party) (n : Option (List ℕ)) (e : Envelope) → answers_so kind s (signed p n e) ≡ answers_so kind s e
@@ -135,11 +135,14 @@ module _ (run : List Act) (w : World) (free : Option ℕ) (f : Front run w free)
       (λ e. ap (λ b. (e.kind == 2 || e.kind == 3) && b) (reply_same s e.reply))
       ∙ taken_so (λ k. k == 2 || k == 3) s (Reader r) run
 
-  pub returned_so : (r s : ℕ) → here.is_returned run (Reader r) s ≡ told.is_returned es r s
-  returned_so r s =
-      any_same (λ (e : Envelope). e.kind == 2 && registering.is_reply_to (Some s) e.reply) (answers_so (λ k. k == 2) s) (here.taken run (Reader r))
+  pub returned_of : (who : Party) (s : ℕ) → here.is_returned run who s ≡ list_any (answers_so (λ k. k == 2) s) (filter_map (told.taken_as es who) es)
+  returned_of who s =
+      any_same (λ (e : Envelope). e.kind == 2 && registering.is_reply_to (Some s) e.reply) (answers_so (λ k. k == 2) s) (here.taken run who)
       (λ e. ap (λ b. e.kind == 2 && b) (reply_same s e.reply))
-      ∙ taken_so (λ k. k == 2) s (Reader r) run
+      ∙ taken_so (λ k. k == 2) s who run
+
+  pub returned_so : (r s : ℕ) → here.is_returned run (Reader r) s ≡ told.is_returned es r s
+  returned_so r s = returned_of (Reader r) s
 
   -- EACH EARLIER OWN CALL was answered
   among : (n : ℕ) (ms : List Envelope) → From n ms → AllByRecursion (λ (m : Envelope). told.with_serial m.serial ms ≡ Some m) ms

@@ -23,7 +23,7 @@ IsWordOf reader (gone r a) = r ≡ reader
 IsWordOf reader (spoke r a text) = r ≡ reader
 IsWordOf reader entry = ⊥
 
-chosen_more : {A : Type 0} (p : Act → Option A) (xs ys : List Act) → filter_map p (xs ++ ys) ≡ filter_map p xs ++ filter_map p ys
+pub chosen_more : {A : Type 0} (p : Act → Option A) (xs ys : List Act) → filter_map p (xs ++ ys) ≡ filter_map p xs ++ filter_map p ys
 chosen_more p [] ys = refl
 chosen_more {A = A} p (x ∷ xs) ys = by (p x) (chosen_more p xs ys)
   where

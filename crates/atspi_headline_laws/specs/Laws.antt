@@ -1,16 +1,15 @@
 -- WHICH LAWS OF THE HEADLINE every lawful trace of a script keeps, in one run that has its lines and its entries.
-use Rattle.std.specs.Prelude.{◌≡◌, ◌||◌, ℕ, Bool, true, false, List}
+use Rattle.std.specs.Prelude.{◌≡◌, ℕ, false, List}
 use Rattle.std.specs.List.{AllByRecursion}
 use Rattle.atspi_script_lines.specs.declared.line.Line.{Line}
-use Rattle.atspi_script_lines.specs.declared.line.Party.TheVariants.{App}
 use Rattle.atspi_script_lines.specs.Line.{Spells}
-use Rattle.atspi_trace.specs.Entry.{Entry, got}
+use Rattle.atspi_trace.specs.Entry.{Entry}
 use Rattle.atspi_trace.specs.Due.{begins, at_work, after_all, is_lost, Lawful}
-use Rattle.atspi_headline.specs.Words.{Act, writes, lines_in, entries_in, starting, of_registry, Everywhere}
-use Rattle.atspi_headline.specs.Words.{Unless, AreDue, is_done, of_reader, writes_a}
-use Rattle.atspi_headline.specs.Headline.{BeginsWithLine, start_due, steps_due, StepsAre}
-use Rattle.atspi_headline.specs.Headline.{registry_words_due, NothingBehind, CallsAre}
-use Rattle.atspi_headline.specs.Headline.{LawOfShownRows, LawOfSpokenLines, LawOfExits}
+use Rattle.atspi_headline.specs.Words.{Act, lines_in, entries_in, starting, of_registry, of_reader, hearing, writes_a}
+use Rattle.atspi_headline.specs.Words.{Everywhere, Unless, AreDue}
+use Rattle.atspi_headline.specs.Headline.{BeginsWithLine, start_due, registry_words_due, hearing_due, CallsAre}
+use Rattle.atspi_headline.specs.Headline.{NothingBehind, LawOfSteps, LawOfApplications, LawOfReaders, LawOfShownRows}
+use Rattle.atspi_headline.specs.Headline.{LawOfSpokenLines, LawOfExits}
 
 -- each line is one that bytes spell
 abbrev pub IsSpelled : Line → Type 0
@@ -41,17 +40,10 @@ pub record StartsFollowTheirLines (run : List Act) : Type 0 where
 abbrev pub RegistrySendsItsStep : List Act → Type 0
 RegistrySendsItsStep run = AreDue false of_registry registry_words_due run
 
--- Behind an edit's line stand the steps of that edit of the live tree, and behind anything else none: the law of steps
--- but for what stands behind a message that an application takes
-abbrev pub is_taken_by_app : Act → Bool
-is_taken_by_app (writes (got (App app) sender serial)) = true
-is_taken_by_app act = false
-
-abbrev pub StepsBehind : List Act → Act → List Act → Type 0
-StepsBehind before act after = Unless (is_done act || is_taken_by_app act) (StepsAre false after (steps_due before act))
-
-abbrev pub StepsFollowEdits : List Act → Type 0
-StepsFollowEdits run = Everywhere StepsBehind run
+-- What an application hears of changes directly behind the registry's signal, or the return to its third call, which
+-- lists all pairs; and nowhere else
+abbrev pub ApplicationsHear : List Act → Type 0
+ApplicationsHear run = AreDue false hearing hearing_due run
 
 -- Behind a reader's start stands its Hello, behind its line its user's call, behind a message that it took at most one
 -- call of its own, and a reader sends nothing else
@@ -65,15 +57,14 @@ ReadersCallInTurn run = Everywhere CallsBehind run
 abbrev pub NothingFollowsADrop : List Act → Type 0
 NothingFollowsADrop run = Everywhere NothingBehind run
 
--- ALL THAT IS PROVED, of one run: the laws of shown rows, of spoken lines and of exits, whole; of the law of segments
--- that a run begins with a line, and where ends start; of that of steps all but what stands behind a message that an
--- application takes; of that of registry, hearing and readers all but what applications hear; of that of dropped ends
--- that nothing of one stands behind its drop
+-- ALL THAT IS PROVED, of one run: the laws of steps, of applications, of registry, hearing and readers, of shown rows,
+-- of spoken lines and of exits, whole; of the law of segments that a run begins with a line, and where ends start; of
+-- that of dropped ends that nothing of one stands behind its drop
 pub record ProvedLaws (run : List Act) : Type 0 where
   pub starts : StartsFollowTheirLines run
-  pub edits : StepsFollowEdits run
-  pub registry : RegistrySendsItsStep run
-  pub readers : ReadersCallInTurn run
+  pub steps : LawOfSteps false run
+  pub applications : LawOfApplications false run
+  pub readers : LawOfReaders false run
   pub shown : LawOfShownRows false run
   pub spoken : LawOfSpokenLines false run
   pub exits : LawOfExits false run

@@ -1,9 +1,10 @@
 //! The laws of the headline that are proved, each of the run of every lawful trace.
 
-ghost use Rattle.atspi_headline.specs.Headline.{LawOfShownRows, LawOfSpokenLines, LawOfExits};
+ghost use Rattle.atspi_headline.specs.Headline.{LawOfSteps, LawOfApplications, LawOfShownRows, LawOfSpokenLines};
+ghost use Rattle.atspi_headline.specs.Headline.{LawOfExits};
 ghost use Rattle.std.specs.Prelude.{false};
-ghost use Rattle.atspi_headline_laws.specs.Laws.{OfEachTrace, StartsFollowTheirLines, StepsFollowEdits};
-ghost use Rattle.atspi_headline_laws.specs.Laws.{RegistrySendsItsStep, ReadersCallInTurn};
+ghost use Rattle.atspi_headline_laws.specs.Laws.{OfEachTrace, StartsFollowTheirLines};
+ghost use Rattle.atspi_headline_laws.specs.Laws.{RegistrySendsItsStep, ApplicationsHear, ReadersCallInTurn};
 ghost use Rattle.atspi_headline_laws.specs.Laws.{NothingFollowsADrop, ProvedLaws};
 
 /// A lawful trace has a run that keeps all of the laws below at once.
@@ -16,15 +17,28 @@ pub fn starts_follow_their_lines()
     ensures { OfEachTrace (λ run. StartsFollowTheirLines run) }
 {}
 
-/// Behind an edit's line stand the steps of that edit of the live tree, and behind anything else none: the law of steps
-/// but for what stands behind a message that an application takes.
-pub fn steps_follow_edits()
-    ensures { OfEachTrace StepsFollowEdits }
+/// The law of steps: behind an edit's line stand the steps of that edit of the live tree, behind a call that an
+/// application takes those of its answer, and behind anything else none.
+pub fn steps_follow_edits_and_calls()
+    ensures { OfEachTrace (λ run. LawOfSteps false run) }
+{}
+
+/// The law of applications: directly behind each step stand its announcement and its echoes that a heard pattern
+/// covers, behind all steps the reply to the call or the next call of the start, and an application sends nothing else.
+pub fn applications_say_what_is_due()
+    ensures { OfEachTrace (λ run. LawOfApplications false run) }
 {}
 
 /// The registry sends what its step sends, from the state that the run tells, directly behind what it takes.
 pub fn registry_sends_its_step()
     ensures { OfEachTrace RegistrySendsItsStep }
+{}
+
+/// What an application hears of changes directly behind the registry's signal, or behind the list of all pairs that its
+/// third call returns, as these say, and nowhere else. With what the registry sends and how readers call this is the
+/// law of registry, hearing and readers.
+pub fn applications_hear_the_registry()
+    ensures { OfEachTrace ApplicationsHear }
 {}
 
 /// Behind a reader's start stands its Hello, behind its line its user's call, and behind a message that it took at most
