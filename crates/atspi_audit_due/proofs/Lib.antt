@@ -1,0 +1,5 @@
+pub mod Fitting
+pub mod Scripts
+pub mod Same
+pub mod Verdicts
+pub mod Answered

@@ -1,0 +1,4 @@
+pub mod Readers
+pub mod Fits
+pub mod Verdicts
+pub mod Laws

@@ -1,0 +1,4 @@
+pub mod Cuts
+pub mod Messages
+pub mod Fronts
+pub mod Once

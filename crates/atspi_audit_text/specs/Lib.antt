@@ -1,0 +1,3 @@
+pub mod inner
+pub mod Told
+pub mod Laws
