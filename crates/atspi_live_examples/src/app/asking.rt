@@ -3,7 +3,8 @@
 ghost use Rattle.std.specs.Prelude.{◌≡◌, ◌<◌, ◌≤◌, ◌++◌, ℕ, [], List, None, Some, Ok, Err, IsUtf8, codes, length};
 ghost use Rattle.atspi_script_lines.specs.declared.limits.TheConstants.{LINE_LIMIT};
 ghost use Rattle.atspi_script_lines.specs.declared.line.LineFault.TheVariants as faults;
-ghost use Rattle.atspi_live_app.specs.Asking.{AsksFor, EditIn, IsAsk, IsEditLine, IsWait, OtherIn, edit_in, plain_in};
+ghost use Rattle.atspi_live_app.specs.Asking.{IsAsk, IsEditLine, IsWait};
+ghost use Rattle.atspi_live_app.specs.inner.Asking.{AsksFor, EditIn, OtherIn, edit_in, plain_in};
 ghost use Rattle.atspi_live_app.specs.declared.asking.Ask.{Ask};
 ghost use Rattle.atspi_live_app.specs.declared.asking.Ask.TheVariants as asks;
 ghost use Rattle.atspi_live_examples.specs.app.Lines.{named};

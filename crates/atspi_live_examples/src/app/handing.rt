@@ -3,7 +3,8 @@
 ghost use Rattle.std.specs.Prelude.{◌≡◌, ◌∷◌, ℕ, [], List, None, Some};
 ghost use Rattle.atspi_message.specs.Envelope.{Envelope};
 ghost use Rattle.atspi_protocol.specs.exporting.Exporter.{Exporter, hears, sends};
-ghost use Rattle.atspi_live_app.specs.Live.{Hands, IsKept, IsStarted, seen};
+ghost use Rattle.atspi_live_app.specs.Live.{IsKept, seen};
+ghost use Rattle.atspi_live_app.specs.inner.Live.{Hands, IsStarted};
 
 /// A message that is handed over stood in front, but for what is no message; or there was none.
 pub fn queues_handed()

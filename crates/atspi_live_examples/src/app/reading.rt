@@ -2,7 +2,8 @@
 
 ghost use Rattle.std.specs.Prelude.{◌≡◌, ◌<◌, ◌∷◌, ◌++◌, ℕ, [], List, None, Some, Ok, Err, codes, length};
 ghost use Rattle.atspi_base.specs.declared.outside.NoMemory.{NoMemory};
-ghost use Rattle.atspi_live_app.specs.Input.{Blames, BlamesEnd, HasRead, NextAsk, Passes, left_in};
+ghost use Rattle.atspi_live_app.specs.Input.{BlamesEnd, HasRead, left_in};
+ghost use Rattle.atspi_live_app.specs.inner.Input.{Blames, NextAsk, Passes};
 ghost use Rattle.atspi_live_app.specs.declared.asking.Ask.TheVariants as asks;
 ghost use Rattle.atspi_live_app.specs.declared.input.End.TheVariants.{Failed, TooLong, Whole};
 ghost use Rattle.atspi_live_app.specs.declared.input.TheConstants.{INPUT_LIMIT};

@@ -3,7 +3,8 @@
 ghost use Rattle.std.specs.Prelude.{◌≡◌, ◌∷◌, ◌++◌, ℕ, List, [], None, Some, codes, true, false};
 ghost use Rattle.atspi_message.specs.Envelope.{Envelope};
 ghost use Rattle.atspi_reader.specs.Steps.{IsState};
-ghost use Rattle.atspi_live_reader.specs.Handed.{Follows, GivesRest, HandsAll, IsFrontOf};
+ghost use Rattle.atspi_live_reader.specs.Handed.{Follows, IsFrontOf};
+ghost use Rattle.atspi_live_reader.specs.inner.Handed.{GivesRest, HandsAll};
 ghost use Rattle.atspi_live_reader.specs.Spoken.{following, say_line};
 ghost use Rattle.atspi_live_examples.specs.reader.Held.{name, said, told};
 ghost use Rattle.atspi_protocol.specs.following.ReaderState.{Done, ReaderState, begins, sends, speaks, tells_end};

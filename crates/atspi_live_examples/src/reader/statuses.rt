@@ -2,7 +2,8 @@
 
 ghost use Rattle.std.specs.Prelude.{◌≡◌, ◌∷◌, [], ℕ, true, false, List, None, Some, codes};
 ghost use Rattle.atspi_live_conversation.specs.declared.ending.Ending.{Ending};
-ghost use Rattle.atspi_live_reader.specs.Following.{HasWords, IsUntold, WritesPart};
+ghost use Rattle.atspi_live_reader.specs.Following.{IsUntold, WritesPart};
+ghost use Rattle.atspi_live_reader.specs.inner.Following.{HasWords};
 ghost use Rattle.atspi_live_reader.specs.Handed.{IsFrontOf, KeepsLine};
 ghost use Rattle.atspi_live_reader.specs.Runs.{OfTaken, ReportsLast, RunEnds};
 ghost use Rattle.atspi_live_reader.specs.Spoken.{sent_in};
