@@ -11,7 +11,7 @@ use Rattle.atspi_protocol.specs.declared.ends.fault.EndFault.TheVariants as ends
 use Rattle.atspi_app_known.specs.application.Faults.{of_end}
 use Rattle.atspi_app_known.specs.declared.application.fault.AppFault.{AppFault}
 use Rattle.atspi_app_known.specs.declared.application.fault.AppFault.TheVariants as faults
-use Rattle.atspi_app.specs.Faults.{of_edit}
+use Rattle.atspi_app.specs.inner.Faults.{of_edit}
 
 same_error : {T : Type 0} (a b : AppFault) → ◌≡◌ {A = Result T AppFault} (Err a) (Err b) → a ≡ b
 same_error a b h = cc

@@ -33,7 +33,8 @@ use Rattle.atspi_app_answers.specs.Replies.{sent_back}
 use Rattle.atspi_app_answers.proofs.Senders.{sent_to}
 use Rattle.atspi_app.specs.declared.called.outcome.Called.{Called}
 use Rattle.atspi_app.specs.called.Called.{answer_of, reply_of}
-use Rattle.atspi_app.specs.Seen.{seen, AreUnnumbered}
+use Rattle.atspi_app.specs.Seen.{seen}
+use Rattle.atspi_app.specs.inner.Seen.{AreUnnumbered}
 use Rattle.atspi_app_known.specs.heeding.Heeding.{is_answered}
 use Rattle.atspi_app_known.proofs.OfHeeding.Heeded.{IsAnswered, answered}
 use Rattle.atspi_app.proofs.OfEdits.{same_shape}

@@ -17,7 +17,7 @@ use Rattle.atspi_protocol.specs.whole.Whole.{Faces, whole}
 use Rattle.atspi_protocol.proofs.OfWhole.Followed.{shape_is_kept}
 use Rattle.atspi_app_signals.specs.Asked.{messages_asked, CanBeTold}
 use Rattle.atspi_app_signals.specs.Laws.{told_of_one}
-use Rattle.atspi_app.specs.Seen.{AreUnnumbered}
+use Rattle.atspi_app.specs.inner.Seen.{AreUnnumbered}
 use Rattle.atspi_app.proofs.Unnumbered.{messages_unnumbered}
 
 no_faces : Faces

@@ -16,7 +16,7 @@ use Rattle.atspi_protocol.specs.exporting.Exporter.{Happening, sends}
 use Rattle.atspi_protocol.specs.exporting.Hearing.{is_covered}
 use Rattle.atspi_protocol.specs.exporting.Telling.{asked_for}
 use Rattle.atspi_app_signals.specs.Asked.{messages_asked}
-use Rattle.atspi_app.specs.Seen.{AreUnnumbered}
+use Rattle.atspi_app.specs.inner.Seen.{AreUnnumbered}
 
 abbrev IsUnnumbered : Signal → Type 0
 IsUnnumbered s = s.message.serial ≡ 0

@@ -1,4 +1,4 @@
+pub mod inner
 pub mod Seen
 pub mod Boxed
-pub mod Faults
 pub mod called

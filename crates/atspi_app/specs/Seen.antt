@@ -1,7 +1,5 @@
 -- What an application is seen as: the application of the definitions, whose tree is the whole that is exported.
-use Rattle.std.specs.Prelude.{◌≡◌, ℤ, List, []}
-use Rattle.atspi_tree_model.specs.Row.{Each}
-use Rattle.atspi_message.specs.Envelope.{Envelope}
+use Rattle.std.specs.Prelude.{ℤ, []}
 use Rattle.atspi_app_exported.specs.Parts.{Parts, whole_of}
 use Rattle.atspi_protocol.specs.exporting.Exporter.{Exporter, begins}
 use Rattle.atspi_app_known.specs.declared.starting.known.Known.{Known}
@@ -14,7 +12,3 @@ with_tree p id = record (begins []) { tree = whole_of p; added = p.tree.added; i
 -- and beside them what is known
 abbrev pub seen : Parts → ℤ → Known → Exporter
 seen p id known = known_in known (with_tree p id)
-
--- messages that have no numbers yet
-abbrev pub AreUnnumbered : List Envelope → Type 0
-AreUnnumbered es = Each (λ (e : Envelope). e.serial ≡ 0) es

@@ -1,7 +1,7 @@
 //! Why an edit has no steps, as a fault of an application.
 
 ghost use Rattle.std.specs.Prelude.{◌≡◌};
-ghost use Rattle.atspi_app.specs.Faults.{of_edit};
+ghost use Rattle.atspi_app.specs.inner.Faults.{of_edit};
 
 use atspi_app_known::application::AppFault;
 use atspi_tree_edits::EditRefused;

@@ -13,7 +13,7 @@ ghost use Rattle.atspi_app_known.specs.happenings.View.{happened};
 ghost use Rattle.atspi_message_in_place.specs.View.{envelope_at};
 ghost use Rattle.atspi_app_answers.specs.Replies.{sent_back};
 ghost use Rattle.atspi_app.specs.called.Called.{reply_of};
-ghost use Rattle.atspi_app.specs.Seen.{AreUnnumbered};
+ghost use Rattle.atspi_app.specs.inner.Seen.{AreUnnumbered};
 
 use crate::called::sent_back;
 use atspi_app_known::happenings::Happenings;

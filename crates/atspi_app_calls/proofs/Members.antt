@@ -26,7 +26,8 @@ use Rattle.atspi_protocol.specs.members.Asked.{and_then, first_or, is_text, is_t
 use Rattle.atspi_app_calls.specs.declared.interface.AppInterface.{AppInterface}
 use Rattle.atspi_app_calls.specs.declared.interface.AppInterface.TheVariants as interfaces
 use Rattle.atspi_app_calls.specs.declared.object.AppObject.{AppObject}
-use Rattle.atspi_app_calls.specs.Interface.{interface_name, of_interface, lines_in}
+use Rattle.atspi_app_calls.specs.Interface.{interface_name}
+use Rattle.atspi_app_calls.specs.inner.Interface.{of_interface, lines_in}
 use Rattle.atspi_app_calls.specs.Object.{object_of}
 use Rattle.atspi_app_calls.specs.inner.Lines.{line_named, offered_lines, meant_line, at}
 use Rattle.atspi_app_calls.proofs.Names.{no_registry, no_socket}

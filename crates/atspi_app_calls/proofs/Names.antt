@@ -11,7 +11,8 @@ use Rattle.atspi_app_calls.specs.declared.interface.AppInterface.{AppInterface}
 use Rattle.atspi_app_calls.specs.declared.interface.AppInterface.TheVariants as interfaces
 use Rattle.atspi_app_calls.specs.declared.object.AppObject.{AppObject}
 use Rattle.atspi_app_calls.specs.declared.object.AppObject.TheVariants.{Node, Cache}
-use Rattle.atspi_app_calls.specs.Interface.{interface_name, NamesInterface}
+use Rattle.atspi_app_calls.specs.Interface.{interface_name}
+use Rattle.atspi_app_calls.specs.inner.Interface.{NamesInterface}
 use Rattle.atspi_app_calls.specs.Object.{object_of}
 
 pub not_same : (a b : List ℕ) → (a ≡ b → ⊥) → bytes_eq a b ≡ false

@@ -21,10 +21,12 @@ use Rattle.atspi_app_calls.specs.declared.interface.AppInterface.{AppInterface}
 use Rattle.atspi_app_calls.specs.declared.interface.AppInterface.TheVariants as interfaces
 use Rattle.atspi_app_calls.specs.declared.object.AppObject.{AppObject}
 use Rattle.atspi_app_calls.specs.declared.ask.Ask.TheVariants.{Get, SetId}
-use Rattle.atspi_app_calls.specs.Interface.{interface_name, NamesInterface, properties_in}
+use Rattle.atspi_app_calls.specs.Interface.{interface_name, properties_in}
+use Rattle.atspi_app_calls.specs.inner.Interface.{NamesInterface}
 use Rattle.atspi_app_calls.specs.Object.{object_of}
 use Rattle.atspi_app_calls.specs.inner.Lines.{property_first}
-use Rattle.atspi_app_calls.specs.Ask.{as_asked, IsSettable, IsLine}
+use Rattle.atspi_app_calls.specs.Ask.{as_asked}
+use Rattle.atspi_app_calls.specs.inner.Ask.{IsSettable, IsLine}
 use Rattle.atspi_app_calls.proofs.Names.{no_interface}
 
 plain_name : (i : AppInterface) → IsPlain (interface_name i)

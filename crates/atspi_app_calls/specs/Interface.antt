@@ -1,7 +1,7 @@
 -- The interfaces that an application's objects have, with their names, and their lines of the tables.
-use Rattle.std.specs.Prelude.{◌≡◌, ◌≢◌, ℕ, List, filter, bytes_eq, Option, None, Some}
+use Rattle.std.specs.Prelude.{ℕ, List, filter, bytes_eq}
 use Rattle.atspi_protocol.specs.members.Interfaces as names
-use Rattle.atspi_protocol.specs.members.Table.{MemberLine, PropertyLine, member_lines, property_lines}
+use Rattle.atspi_protocol.specs.members.Table.{PropertyLine, property_lines}
 use Rattle.atspi_app_calls.specs.declared.interface.AppInterface.{AppInterface}
 use Rattle.atspi_app_calls.specs.declared.interface.AppInterface.TheVariants as interfaces
 
@@ -16,19 +16,6 @@ interface_name interfaces.Table = names.table
 interface_name interfaces.Action = names.action
 interface_name interfaces.Properties = names.properties
 interface_name interfaces.Peer = names.peer
-
--- the interface with this name, or there is none
-abbrev pub NamesInterface : List ℕ → Option AppInterface → Type 0
-NamesInterface name None = (i : AppInterface) → name ≢ interface_name i
-NamesInterface name (Some i) = name ≡ interface_name i
-
--- the lines of the interface with a name
-abbrev pub of_interface : List ℕ → List MemberLine → List MemberLine
-of_interface name ls = filter (λ (l : MemberLine). bytes_eq name l.interface) ls
-
--- an interface's lines of the table of members, and of that of properties
-abbrev pub lines_in : AppInterface → List MemberLine
-lines_in i = of_interface (interface_name i) member_lines
 
 abbrev pub properties_in : AppInterface → List PropertyLine
 properties_in i = filter (λ (l : PropertyLine). bytes_eq (interface_name i) l.interface) property_lines

@@ -7,7 +7,8 @@ ghost use Rattle.atspi_app_calls.specs.reading.Arguments.{IsSigned};
 ghost use Rattle.atspi_protocol.specs.members.Asked as asked;
 ghost use Rattle.atspi_protocol.specs.members.Table.{PropertyLine};
 ghost use Rattle.atspi_app_calls.specs.Object.{object_of};
-ghost use Rattle.atspi_app_calls.specs.Ask.{as_asked, IsLine, IsFound, AreAll};
+ghost use Rattle.atspi_app_calls.specs.Ask.{as_asked};
+ghost use Rattle.atspi_app_calls.specs.inner.Ask.{IsLine, IsFound, AreAll};
 
 use crate::ask::Ask;
 use crate::interface::{AppInterface, interface_named};

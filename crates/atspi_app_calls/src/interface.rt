@@ -1,7 +1,8 @@
 //! The interfaces that an application's objects have.
 
 ghost use Rattle.std.specs.Prelude.{◌≡◌};
-ghost use Rattle.atspi_app_calls.specs.Interface.{interface_name, NamesInterface};
+ghost use Rattle.atspi_app_calls.specs.Interface.{interface_name};
+ghost use Rattle.atspi_app_calls.specs.inner.Interface.{NamesInterface};
 
 /// An interface of an application's objects (AT-SPI2's interface files; D-Bus Specification, "Standard Interfaces").
 #[derive(Clone, Copy, Debug, PartialEq, Eq)]

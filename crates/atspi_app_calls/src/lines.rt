@@ -3,7 +3,7 @@
 ghost use Rattle.std.specs.Prelude.{◌≡◌};
 ghost use Rattle.atspi_protocol.specs.members.Interfaces as names;
 ghost use Rattle.atspi_protocol.specs.members.Table as table;
-ghost use Rattle.atspi_app_calls.specs.Interface.{lines_in, of_interface};
+ghost use Rattle.atspi_app_calls.specs.inner.Interface.{lines_in, of_interface};
 ghost use Rattle.atspi_app_calls.specs.inner.Lines.{line_named, lent_line};
 
 use crate::interface::AppInterface;

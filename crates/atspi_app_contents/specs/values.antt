@@ -1,3 +1,4 @@
+pub mod inner
 pub mod Places
 pub mod Numbers
 pub mod Actions

@@ -18,7 +18,8 @@ use Rattle.atspi_tree.specs.Seats.{seat_at, seats_in}
 use Rattle.atspi_tree.specs.declared.seats.Seat.{Seat}
 use Rattle.atspi_tree.proofs.Trees.{width-numbers}
 use Rattle.atspi_app_items.specs.Bare.{bare}
-use Rattle.atspi_app_items.specs.Seated.{of_registry, item_below, seat_item, item_there, seats_items}
+use Rattle.atspi_app_items.specs.Seated.{of_registry}
+use Rattle.atspi_app_items.specs.inner.Seated.{item_below, seat_item, item_there, seats_items}
 use Rattle.atspi_app_items.proofs.Known.{Known, each_known}
 
 -- a place of a node that is there

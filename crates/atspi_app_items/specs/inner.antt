@@ -1,2 +1,3 @@
 -- Words that only private contracts and proofs use: nothing here has to be believed.
 pub mod Names
+pub mod Seated

@@ -12,7 +12,7 @@ ghost use Rattle.atspi_protocol.specs.objects.Answers.{items_data};
 ghost use Rattle.atspi_protocol.specs.objects.Values as values;
 ghost use Rattle.atspi_tree.specs.Seats.{seats_in};
 ghost use Rattle.atspi_tree.specs.TreeShape.{row_of};
-ghost use Rattle.atspi_app_items.specs.Seated.{seat_item, seats_items, told_index};
+ghost use Rattle.atspi_app_items.specs.inner.Seated.{seat_item, seats_items, told_index};
 
 use crate::items::item_value;
 use crate::nodes::{node_item, signed};

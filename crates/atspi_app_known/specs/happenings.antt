@@ -1,3 +1,4 @@
+pub mod inner
 pub mod Happened
 pub mod View
 pub mod Room

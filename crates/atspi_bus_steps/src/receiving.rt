@@ -138,8 +138,8 @@ pub fn receivers_of_own(
     }
 }
 
-/// Who receives a message of the bus's own: where it is too long for the wire, the owner of its destination, since it is
-/// no signal.
+/// Who receives a message of the bus's own: where it is too long for the wire, the owner of its destination, since it
+/// is no signal.
 pub fn receivers_of(
     alloc: Global,
     joined: &[u32],

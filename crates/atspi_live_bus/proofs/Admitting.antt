@@ -12,11 +12,13 @@ use Rattle.atspi_live_host.specs.declared.call.Call.{Call}
 use Rattle.atspi_live_host.specs.declared.call.Call.TheVariants.{Accept}
 use Rattle.atspi_live_bus.specs.Asked.{Asked}
 use Rattle.atspi_live_bus.specs.Course.{Accepts, Course}
-use Rattle.atspi_live_bus.specs.Rounds.{Breaks, Moves}
+use Rattle.atspi_live_bus.specs.Rounds.{Breaks}
+use Rattle.atspi_live_bus.specs.inner.Rounds.{Moves}
 use Rattle.atspi_live_bus.specs.inner.Seats.{AreAbove, GoesOpen, HasAccepted, Rise, Stands, numbers_of, seats}
 use Rattle.atspi_live_bus.specs.inner.Serving.{numbers}
 use Rattle.atspi_live_bus.specs.Stops.{IsWant}
-use Rattle.atspi_live_bus.specs.Turns.{Each, Goes, IsSeated, Seats, StopsAt}
+use Rattle.atspi_live_bus.specs.Turns.{StopsAt}
+use Rattle.atspi_live_bus.specs.inner.Turns.{Each, Goes, IsSeated, Seats}
 use Rattle.atspi_live_bus.specs.declared.link.Link.{Link}
 use Rattle.atspi_live_bus.specs.declared.stop.Stop.{Stop}
 use Rattle.atspi_live_bus.specs.declared.stop.Stop.TheVariants as stops

@@ -4,7 +4,7 @@ use Rattle.std.proofs.lemmas.Bool.Decides.{eqb_tells}
 use Rattle.atspi_message.specs.Envelope.{Envelope}
 use Rattle.atspi_match.specs.routing.Queues as queues
 use Rattle.atspi_live_bus.specs.Asked.{Asked, taking, popping, Leads, Runs, message_in, handed_in, messages_of, handed_to}
-use Rattle.atspi_live_bus.specs.Turns.{IsOfOne}
+use Rattle.atspi_live_bus.specs.inner.Turns.{IsOfOne}
 
 pub messages_both : (c : ℕ) (asks bs : List Asked) → messages_of c (asks ++ bs) ≡ messages_of c asks ++ messages_of c bs
 messages_both c [] bs = refl

@@ -6,7 +6,7 @@ use Rattle.atspi_live_host.specs.declared.call.Call.{Call}
 use Rattle.atspi_live_host.specs.declared.call.Call.TheVariants.{Read, Write}
 use Rattle.atspi_live_host.specs.Calls.{Adds, front, takes, gives, taken, given}
 use Rattle.atspi_live_bus.specs.Service.{OfTold}
-use Rattle.atspi_live_bus.specs.Turns.{Carries, OthersRest}
+use Rattle.atspi_live_bus.specs.inner.Turns.{Carries, OthersRest}
 
 pub taken_append : (k : ℕ) (cs ds : List Call) → taken k (cs ++ ds) ≡ taken k cs ++ taken k ds
 taken_append k [] ds = refl

@@ -15,7 +15,7 @@ use Rattle.atspi_stream.proofs.NextLaws.{history_more, takes_piece}
 use Rattle.atspi_stream.proofs.StreamLaws.{message_states}
 use Rattle.atspi_live_host.specs.declared.call.Did.{Did}
 use Rattle.atspi_live_bus.specs.Closes.{IsLost}
-use Rattle.atspi_live_bus.specs.Rounds.{GoesOn}
+use Rattle.atspi_live_bus.specs.inner.Rounds.{GoesOn}
 use Rattle.atspi_live_bus.specs.Service.{IsSpeech, envelopes, line_bytes, lines_for}
 use Rattle.atspi_live_bus.specs.Turns.{Converses}
 use Rattle.atspi_live_bus.specs.declared.link.Link.{Link}

@@ -9,7 +9,8 @@ use Rattle.atspi_bus_queues.specs.Change.{with_queue}
 use Rattle.atspi_live_host.specs.declared.call.Call.{Call}
 use Rattle.atspi_live_bus.specs.Asked.{Asked, popping, handed_to}
 use Rattle.atspi_live_bus.specs.Course.{AreHandings}
-use Rattle.atspi_live_bus.specs.Turns.{Carries, Converses, Fetches, Gives}
+use Rattle.atspi_live_bus.specs.Turns.{Converses}
+use Rattle.atspi_live_bus.specs.inner.Turns.{Carries, Fetches, Gives}
 use Rattle.atspi_live_bus.specs.declared.link.Link.{Link}
 use Rattle.atspi_live_bus.proofs.Asking.{both_of_one, handed_both, handed_one, messages_same, one_run, popping_of_one, runs_both}
 use Rattle.atspi_live_bus.proofs.Calling.{carries_from}

@@ -15,10 +15,12 @@ use Rattle.atspi_live_host.specs.declared.call.Call.TheVariants.{Read, Write}
 use Rattle.atspi_live_bus.specs.Asked.{messages_of, handed_to}
 use Rattle.atspi_live_bus.specs.Course.{Course}
 use Rattle.atspi_live_bus.specs.Due.{HasAllGiven}
-use Rattle.atspi_live_bus.specs.Rounds.{Does, GoesOn, Wait}
+use Rattle.atspi_live_bus.specs.Rounds.{Wait}
+use Rattle.atspi_live_bus.specs.inner.Rounds.{Does, GoesOn}
 use Rattle.atspi_live_bus.specs.inner.Seats.{HasRead, HasReadOnly, HasSent}
 use Rattle.atspi_live_bus.specs.Service.{IsSaid, IsSpeech}
-use Rattle.atspi_live_bus.specs.Turns.{Converses, Goes, IsSeated, IsSilent, Remains}
+use Rattle.atspi_live_bus.specs.Turns.{Converses}
+use Rattle.atspi_live_bus.specs.inner.Turns.{Goes, IsSeated, IsSilent, Remains}
 use Rattle.atspi_live_bus.specs.declared.link.Link.{Link}
 use Rattle.atspi_live_bus.specs.declared.stop.Stop.{Stop}
 use Rattle.atspi_live_bus.proofs.Calling.{given_more, gives_write, others_write, taken_still}

@@ -20,7 +20,8 @@ use Rattle.atspi_live_bus.specs.Stops.{IsFree, IsWant, status_of}
 use Rattle.atspi_live_bus.specs.declared.stop.Stop.{Stop}
 use Rattle.atspi_live_bus.specs.declared.stop.Stop.TheVariants as stops
 use Rattle.atspi_live_bus.specs.inner.Serving.{Serves, numbers}
-use Rattle.atspi_live_bus.specs.Turns.{Converses, Each, Goes, IsOfOne, IsSeated, IsTold, OthersRest, Seats, StopsAt}
+use Rattle.atspi_live_bus.specs.Turns.{Converses, StopsAt}
+use Rattle.atspi_live_bus.specs.inner.Turns.{Each, Goes, IsOfOne, IsSeated, IsTold, OthersRest, Seats}
 use Rattle.atspi_live_bus.specs.declared.link.Link.{Link}
 use Rattle.atspi_live_bus.proofs.Asking.{handed_both, handed_same, messages_both, messages_same, one_run, runs_both}
 use Rattle.atspi_live_bus.proofs.Calling.{given_still, taken_still, told_map}

@@ -22,12 +22,14 @@ use Rattle.atspi_live_bus.specs.Asked.{taking, Leads, Runs, Spends, messages_of,
 use Rattle.atspi_live_bus.specs.Closes.{AreShut, AreTaken, Attends, Ceases, Follows, FollowsRead, FollowsWrite, IsBad, IsLost, IsRest, Parts}
 use Rattle.atspi_live_bus.specs.Course.{Course, HandsOut, Steps}
 use Rattle.atspi_live_bus.specs.Opened.{open_from}
-use Rattle.atspi_live_bus.specs.Rounds.{Does, GoesOn, IsGift, MayGive, Moves}
+use Rattle.atspi_live_bus.specs.Rounds.{IsGift, MayGive}
+use Rattle.atspi_live_bus.specs.inner.Rounds.{Does, GoesOn, Moves}
 use Rattle.atspi_live_bus.specs.inner.Seats.{AreLeft, BothDo, HasRead, HasReadOnly, HasSent, Hears, Leaves, MayTake, Settles, Takes, TakesAll, TakesCut, TakesNone, TakesSome, Writes, conn_at, left, number_at, numbers_of, seats}
 use Rattle.atspi_live_bus.specs.Service.{IsSaid, IsSpeech}
 use Rattle.atspi_live_bus.specs.inner.Serving.{Serves}
 use Rattle.atspi_live_bus.specs.Stops.{IsWant}
-use Rattle.atspi_live_bus.specs.Turns.{Converses, Gives, Goes, IsSeated, OthersRest, Remains, StopsAt, Tells}
+use Rattle.atspi_live_bus.specs.Turns.{Converses, StopsAt, Tells}
+use Rattle.atspi_live_bus.specs.inner.Turns.{Gives, Goes, IsSeated, OthersRest, Remains}
 use Rattle.atspi_live_bus.proofs.Asking.{one_run, taken_one, taking_of_one}
 use Rattle.atspi_live_bus.proofs.Calling.{given_still, others_read, taken_more, takes_read}
 use Rattle.atspi_live_bus.proofs.Conversing.{converses_same}

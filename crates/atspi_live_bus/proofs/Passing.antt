@@ -12,9 +12,11 @@ use Rattle.atspi_live_bus.specs.declared.link.Link.{Link}
 use Rattle.atspi_live_bus.specs.declared.stop.Stop.{Stop}
 use Rattle.atspi_live_bus.specs.Course.{Course}
 use Rattle.atspi_live_bus.specs.Opened.{open_behind, open_from}
-use Rattle.atspi_live_bus.specs.Rounds.{AreTurns, IsCut, IsHeard, IsPart, IsTurn, MayGive, Moves}
+use Rattle.atspi_live_bus.specs.Rounds.{AreTurns, IsCut, IsHeard, IsPart, IsTurn, MayGive}
+use Rattle.atspi_live_bus.specs.inner.Rounds.{Moves}
 use Rattle.atspi_live_bus.specs.inner.Seats.{AreAbove, BothDo, GoesOpen, Rise, Stands, Takes, TakesCut, conn_at, due, left, number_at, numbers_of, seats}
-use Rattle.atspi_live_bus.specs.Turns.{Goes, StopsAt}
+use Rattle.atspi_live_bus.specs.Turns.{StopsAt}
+use Rattle.atspi_live_bus.specs.inner.Turns.{Goes}
 use Rattle.atspi_live_bus.proofs.Placing.{first_place, none_further, position_first, some_none}
 use Rattle.atspi_live_bus.proofs.Shutting.{conn_there, number_open}
 use Rattle.atspi_live_bus.proofs.Telling.{moves_both, moves_if, moves_none, moves_with}

@@ -11,7 +11,8 @@ use Rattle.atspi_live_host.specs.declared.call.Call.TheVariants.{Listen}
 use Rattle.atspi_live_host.specs.Calls.{Adds}
 use Rattle.atspi_live_bus.specs.Course.{Course, IsCourse, start}
 use Rattle.atspi_live_bus.specs.Opened.{open_behind}
-use Rattle.atspi_live_bus.specs.Rounds.{AreRounds, AreTurns, Breaks, IsRound, IsRun, Moves}
+use Rattle.atspi_live_bus.specs.Rounds.{AreRounds, AreTurns, Breaks, IsRound, IsRun}
+use Rattle.atspi_live_bus.specs.inner.Rounds.{Moves}
 use Rattle.atspi_live_bus.specs.inner.Seats.{GoesOpen, HasAccepted, Stands}
 use Rattle.atspi_live_bus.specs.Service.{HasNoCall, IsService, IsStopped, OfTold}
 use Rattle.atspi_live_bus.specs.Stops.{IsFree, status_of}

@@ -6,7 +6,8 @@ use Rattle.std.proofs.Math.Seq.{split_at}
 use Rattle.std.proofs.Math.ListN.{get_or-map}
 use Rattle.std.specs.List.{remove, drop-map}
 use Rattle.atspi_live_host.specs.declared.call.Did.TheVariants.{Done}
-use Rattle.atspi_live_host.specs.Calls.{IsNew, Differ, Opens, IsOpen, without}
+use Rattle.atspi_live_host.specs.Calls.{IsNew, Opens, IsOpen, without}
+use Rattle.atspi_live_host.specs.inner.Calls.{Differ}
 use Rattle.atspi_live_bus.specs.declared.link.Link.{Link}
 use Rattle.atspi_live_bus.specs.inner.Serving.{Serves, numbers}
 

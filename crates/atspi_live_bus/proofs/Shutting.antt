@@ -10,7 +10,8 @@ use Rattle.atspi_match.specs.routing.Queues.{leaves}
 use Rattle.atspi_match.specs.routing.Queues as queues
 use Rattle.atspi_bus.specs.declared.bus.Bus.{Bus}
 use Rattle.atspi_bus.specs.View.{bus_of, given_of}
-use Rattle.atspi_live_host.specs.Calls.{Adds, Differ, IsNew, IsOpen, taken, given, without}
+use Rattle.atspi_live_host.specs.Calls.{Adds, IsNew, IsOpen, taken, given, without}
+use Rattle.atspi_live_host.specs.inner.Calls.{Differ}
 use Rattle.atspi_live_host.specs.declared.call.Call.{Call}
 use Rattle.atspi_live_host.specs.declared.call.Call.TheVariants.{Listen, Accept, Connect, Read, Write, Close}
 use Rattle.atspi_live_bus.specs.declared.link.Link.{Link}
@@ -20,10 +21,11 @@ use Rattle.atspi_live_bus.specs.Asked.{Asked, leaving, Leads, Runs, Spends}
 use Rattle.atspi_live_bus.specs.Closes.{AreShut, IsShut}
 use Rattle.atspi_live_bus.specs.Course.{AreTellings, Course, Steps, told_all}
 use Rattle.atspi_live_bus.specs.Opened.{open_from}
-use Rattle.atspi_live_bus.specs.Rounds.{AreCloses, Moves}
+use Rattle.atspi_live_bus.specs.inner.Rounds.{AreCloses, Moves}
 use Rattle.atspi_live_bus.specs.inner.Serving.{Serves, numbers}
 use Rattle.atspi_live_bus.specs.inner.Seats.{Dismisses, Leaves, Settles, Settling, conn_at, held, left, left_by, number_at, numbers_of, seats, without_seat}
-use Rattle.atspi_live_bus.specs.Turns.{Each, Goes, IsSeated, IsTold, StopsAt}
+use Rattle.atspi_live_bus.specs.Turns.{StopsAt}
+use Rattle.atspi_live_bus.specs.inner.Turns.{Each, Goes, IsSeated, IsTold}
 use Rattle.atspi_live_bus.proofs.Asking.{one_run, runs_both}
 use Rattle.atspi_live_bus.proofs.Calling.{given_still, taken_append, taken_still}
 use Rattle.atspi_live_bus.proofs.Going.{all_told, on_with, rest_goes, same_goes, same_some, still_goes, stopped_at, tells_both, tells_nobodys, tells_same, told_closings}

@@ -3,7 +3,7 @@ use Rattle.std.proofs.Common.{◌≡◌, List, [], ◌∷◌, ◌++◌, Option, 
 use Rattle.atspi_live_host.specs.declared.call.Call.{Call}
 use Rattle.atspi_live_host.specs.Calls.{Adds}
 use Rattle.atspi_live_bus.specs.Course.{Course}
-use Rattle.atspi_live_bus.specs.Rounds.{Does, Moves}
+use Rattle.atspi_live_bus.specs.inner.Rounds.{Does, Moves}
 use Rattle.atspi_live_bus.specs.Service.{OfTold}
 
 pub does_none : (calls : Option (List Call)) (P : List Call → List Call → Type 0) → ((past : List Call) → P past []) → Does calls calls P

@@ -12,7 +12,8 @@ use Rattle.atspi_live_host.specs.declared.call.Call.TheVariants.{Listen, Accept,
 use Rattle.atspi_live_bus.specs.Closes.{AreShut, AreTaken, Attends, Ceases, FollowsRead, FollowsWrite, IsShut, Parts}
 use Rattle.atspi_live_bus.specs.Course.{Course}
 use Rattle.atspi_live_bus.specs.Opened.{open_behind, open_from, open_then}
-use Rattle.atspi_live_bus.specs.Rounds.{AreCloses, AreTurns, IsClose, IsGift, IsHeard, MayGive, IsTurn}
+use Rattle.atspi_live_bus.specs.Rounds.{AreTurns, IsGift, IsHeard, MayGive, IsTurn}
+use Rattle.atspi_live_bus.specs.inner.Rounds.{AreCloses, IsClose}
 use Rattle.atspi_live_bus.specs.inner.Seats.{AreAbove, Rise, due, left, numbers_of, without_seat}
 
 -- a read, a write or a close

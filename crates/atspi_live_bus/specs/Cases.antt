@@ -1,8 +1,8 @@
 -- Buses with few links, for values that are worked out by hand.
-use Rattle.std.specs.Prelude.{ℕ, ◌==◌, List, [], ◌∷◌, Option, None, Some, if◌then◌else◌}
+use Rattle.std.specs.Prelude.{ℕ, ◌==◌, List, ◌∷◌, Option, None, Some, if◌then◌else◌, []}
 use Rattle.atspi_message.specs.Envelope.{Envelope}
-use Rattle.atspi_match.specs.routing.Queues.{Bus, empty_bus, joins}
-use Rattle.atspi_match.specs.routing.Room.{room, signal_m}
+use Rattle.atspi_match.specs.routing.Queues.{empty_bus, joins}
+use Rattle.atspi_match.specs.routing.Room.{signal_m}
 use Rattle.atspi_match.specs.declared.routing.closing.Why.TheVariants.{Quota}
 use Rattle.atspi_live_bus.specs.Asked.{joining}
 use Rattle.atspi_live_bus.specs.Course.{Course}
@@ -30,11 +30,6 @@ one_due =
           record (joins (joins (empty_bus 16777216) 0) 1)
           { waiting = record (joins (joins (empty_bus 16777216) 0) 1).waiting { due = (1, Quota 5 6) ∷ [] } };
     }
-
--- a bus of four connections, three of which have their names, where nobody asks for anything and nothing waits; and a
--- signal of this path to all
-abbrev pub hushed : Bus
-hushed = record (empty_bus 16777216) { state = record room { rules = [] } }
 
 abbrev pub signal_of : List ℕ → Envelope
 signal_of path = record signal_m { path = Some path }

@@ -1,10 +1,10 @@
 -- The rounds of the bus, as the calls of a host, and the bus itself through all of them.
-use Rattle.std.specs.Prelude.{◌≡◌, ◌≢◌, ◌⊎◌, ◌<◌, ◌≤◌, ℕ, zero, suc, Bool, true, false, List, [], ◌∷◌, ◌++◌, length}
-use Rattle.std.specs.Prelude.{Option, None, Some, ⊤}
+use Rattle.std.specs.Prelude.{◌≡◌, ◌≢◌, ◌⊎◌, ◌<◌, ◌≤◌, ℕ, zero, suc, Bool, true, false, List, ◌∷◌, ◌++◌, length, []}
+use Rattle.std.specs.Prelude.{Some}
 use Rattle.atspi_live_host.specs.declared.call.Did.{Did}
-use Rattle.atspi_live_host.specs.declared.call.Did.TheVariants.{Done, NotYet, End, Failed}
+use Rattle.atspi_live_host.specs.declared.call.Did.TheVariants.{Done, Failed}
 use Rattle.atspi_live_host.specs.declared.call.Call.{Call}
-use Rattle.atspi_live_host.specs.declared.call.Call.TheVariants.{Listen, Accept, Connect, Read, Write, Close}
+use Rattle.atspi_live_host.specs.declared.call.Call.TheVariants.{Listen, Accept, Read, Write}
 use Rattle.atspi_live_host.specs.Calls.{IsOpen, taken}
 use Rattle.atspi_live_bus.specs.Asked.{Spends}
 use Rattle.atspi_live_bus.specs.Closes.{FollowsRead, FollowsWrite}
@@ -14,26 +14,6 @@ use Rattle.atspi_live_bus.specs.Opened.{open_behind}
 use Rattle.atspi_live_bus.specs.Stops.{status_of}
 use Rattle.atspi_live_bus.specs.declared.stop.Stop.{Stop}
 use Rattle.atspi_live_bus.specs.declared.stop.Stop.TheVariants as stops
-
--- the bus goes on behind such an answer of an accept, and with a link behind such an answer of a call for it
-abbrev pub GoesOn : Did → Type 0
-GoesOn (Done n) = ⊤
-GoesOn NotYet = ⊤
-GoesOn End = ⊥
-GoesOn Failed = ⊥
-
--- closes of links alone
-abbrev pub IsClose : Call → Type 0
-IsClose (Listen path did) = ⊥
-IsClose (Accept did) = ⊥
-IsClose (Connect path did) = ⊥
-IsClose (Read k bytes did) = ⊥
-IsClose (Write k bytes did) = ⊥
-IsClose (Close k) = ⊤
-
-abbrev pub AreCloses : List Call → Type 0
-AreCloses [] = ⊤
-AreCloses (c ∷ cs) = IsClose c × AreCloses cs
 
 -- One read of at most 4,096 bytes, and the closes that it brings.
 abbrev pub IsHeard : Bool → Course → List Call → List ℕ → ℕ → ℕ → List Call → Course → Type 0
@@ -122,21 +102,6 @@ abbrev pub Breaks : Stop → Course → List Call → List Call → Course → T
 Breaks stops.HostFailed x past calls y = (calls ≡ Accept Failed ∷ []) × (y ≡ x)
 Breaks stops.Spent x past calls y = IsRound false x past calls y × Spends y.bus
 Breaks stops.NoMemory x past calls y = IsRound false x past calls y ⊎ IsNotSeated x calls y
-
--- Wherever a bus stands before with its links, such calls lead it to where it stands then, and the host tells them
--- behind those before; or it tells no more.
-abbrev pub Moves : Option (List Call) → Option (List Call) → (Course → List Call → Type 0)
-    → (Course → List Call → List Call → Course → Type 0) → (Course → List Call → Type 0) → Type 0
-Moves old None S P T = ⊤
-Moves None (Some ds) S P T = ⊥
-Moves (Some past) (Some ds) S P T = (x : Course) → S x past
-    → (y : Course) × (calls : List Call) × P x past calls y × T y ds × (ds ≡ past ++ calls)
-
--- what a host tells afterwards is what it told before, and then such calls; or it tells no more
-abbrev pub Does : Option (List Call) → Option (List Call) → (List Call → List Call → Type 0) → Type 0
-Does old None P = ⊤
-Does None (Some ds) P = ⊥
-Does (Some past) (Some ds) P = (calls : List Call) × P past calls × (ds ≡ past ++ calls)
 
 -- behind so many whole rounds the bus stopped in one, and this is its status; or all were done
 abbrev pub EndsBehind : ℕ → ℕ → ℕ → Course → List Call → List Call → Course → Type 0

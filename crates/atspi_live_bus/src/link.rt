@@ -8,11 +8,12 @@ ghost use Rattle.atspi_message.specs.Envelope.{Envelope};
 ghost use Rattle.atspi_bus.specs.View.{bus_of, given_of};
 ghost use Rattle.atspi_live_host.specs.Calls.{IsOpen};
 ghost use Rattle.atspi_live_host.specs.declared.call.Did.{Did};
-ghost use Rattle.atspi_live_bus.specs.Rounds.{Does};
+ghost use Rattle.atspi_live_bus.specs.inner.Rounds.{Does};
 ghost use Rattle.atspi_live_bus.specs.inner.Seats.{HasRead, HasReadOnly, HasSent};
 ghost use Rattle.atspi_live_bus.specs.Asked.{Spends};
 ghost use Rattle.atspi_live_bus.specs.Stops.{IsFree, IsWant};
-ghost use Rattle.atspi_live_bus.specs.Turns.{Converses, Fetches, Gives, IsSilent, Remains, Tells};
+ghost use Rattle.atspi_live_bus.specs.Turns.{Converses, Tells};
+ghost use Rattle.atspi_live_bus.specs.inner.Turns.{Fetches, Gives, IsSilent, Remains};
 
 use crate::stop::{Stop, stop_of};
 use atspi_auth::{AuthFault, Server};

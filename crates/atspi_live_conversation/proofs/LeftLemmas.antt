@@ -14,7 +14,8 @@ use Rattle.atspi_live_host.specs.Calls.{Adds}
 use Rattle.atspi_live_conversation.specs.Left.{IsLeft, IsTaken, LeavesOff, LeftOff, StopsAt}
 use Rattle.atspi_live_conversation.specs.Moved.{Tells}
 use Rattle.atspi_live_conversation.specs.Speech.{envelopes}
-use Rattle.atspi_live_conversation.specs.Talking.{Converses, Going, HearsNot, IsAtEase, TellsNot}
+use Rattle.atspi_live_conversation.specs.Talking.{Converses, Going, IsAtEase}
+use Rattle.atspi_live_conversation.specs.inner.Talking.{HearsNot, TellsNot}
 use Rattle.atspi_live_conversation.specs.declared.conversation.Conversation.{Conversation}
 use Rattle.atspi_live_conversation.specs.declared.ending.Ending.{Ending}
 use Rattle.atspi_live_conversation.specs.declared.ending.Ending.TheVariants as endings

@@ -5,7 +5,8 @@ use Rattle.atspi_live_host.specs.declared.call.Did.{Did}
 use Rattle.atspi_live_host.specs.declared.call.Call.{Call}
 use Rattle.atspi_live_host.specs.declared.call.Call.TheVariants.{Read, Write}
 use Rattle.atspi_live_host.specs.Calls.{Adds, front, takes, gives, taken, given}
-use Rattle.atspi_live_conversation.specs.Moved.{answer_of_read, reads, GoesOn, AllGoOn, Grows, Tells, Gives}
+use Rattle.atspi_live_conversation.specs.Moved.{answer_of_read, reads, GoesOn, AllGoOn, Grows, Tells}
+use Rattle.atspi_live_conversation.specs.inner.Moved.{Gives}
 
 pub taken_append : (k : ℕ) (cs ds : List Call) → taken k (cs ++ ds) ≡ taken k cs ++ taken k ds
 taken_append k [] ds = refl

@@ -13,7 +13,8 @@ use Rattle.atspi_live_host.specs.Calls.{Adds, taken, given}
 use Rattle.atspi_live_conversation.specs.Moved.{GoesOn, Tells}
 use Rattle.atspi_live_conversation.specs.Rounds.{AreRounds, Breaks, EndsBehind, IsRead, IsRound, IsRun, IsWrite, Makes, WritesIfDue}
 use Rattle.atspi_live_conversation.specs.Speech.{IsAllGiven, IsSpeech, line_bytes, lines_for}
-use Rattle.atspi_live_conversation.specs.Talking.{Converses, HasNone, IsAtEase, IsOwn, IsUttered, PutsFront, PutsIfAny}
+use Rattle.atspi_live_conversation.specs.Talking.{Converses, HasNone, IsAtEase, IsUttered}
+use Rattle.atspi_live_conversation.specs.inner.Talking.{IsOwn, PutsFront, PutsIfAny}
 use Rattle.atspi_live_conversation.specs.declared.conversation.Conversation.{Conversation}
 use Rattle.atspi_live_conversation.specs.declared.ending.Ending.{Ending}
 use Rattle.atspi_live_conversation.specs.declared.ending.Ending.TheVariants as endings

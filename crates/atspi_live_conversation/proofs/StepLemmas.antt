@@ -14,7 +14,8 @@ use Rattle.atspi_live_host.specs.declared.call.Call.TheVariants.{Read}
 use Rattle.atspi_live_host.specs.Calls.{Adds, taken, given}
 use Rattle.atspi_live_conversation.specs.Moved.{reads, GoesOn, AllGoOn, Tells}
 use Rattle.atspi_live_conversation.specs.Speech.{EndsBy, IsInOrder, IsMalformed, IsRefused, IsSpeech, IsSpentBy, Speaks, line_bytes}
-use Rattle.atspi_live_conversation.specs.Talking.{AttendsAll, Blames, BreaksOff, Converses, GivesPart, Going, HearsNot, IsAtEase, IsBroken, IsEnded, IsOwn, MaySpeak, Says, TellsNot}
+use Rattle.atspi_live_conversation.specs.Talking.{AttendsAll, Blames, Converses, Going, IsAtEase, IsBroken, IsEnded, MaySpeak, Says}
+use Rattle.atspi_live_conversation.specs.inner.Talking.{BreaksOff, GivesPart, HearsNot, IsOwn, TellsNot}
 use Rattle.atspi_live_conversation.specs.declared.conversation.Conversation.{Conversation}
 use Rattle.atspi_live_conversation.specs.declared.ending.Ending.{Ending}
 use Rattle.atspi_live_conversation.specs.declared.ending.Ending.TheVariants as endings

@@ -1,3 +1,4 @@
+pub mod inner
 pub mod Sent
 pub mod Moved
 pub mod Speech

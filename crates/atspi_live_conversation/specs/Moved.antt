@@ -1,5 +1,5 @@
 -- What calls of a host moved on a link.
-use Rattle.std.specs.Prelude.{◌≡◌, ℕ, ◌==◌, List, [], ◌∷◌, ◌++◌, Option, None, Some, ⊤, if◌then◌else◌}
+use Rattle.std.specs.Prelude.{◌≡◌, ℕ, ◌==◌, List, ◌∷◌, ◌++◌, Option, None, Some, ⊤, if◌then◌else◌, []}
 use Rattle.atspi_live_host.specs.declared.call.Did.{Did}
 use Rattle.atspi_live_host.specs.declared.call.Did.TheVariants.{Done, NotYet, End, Failed}
 use Rattle.atspi_live_host.specs.declared.call.Call.{Call}
@@ -40,10 +40,3 @@ abbrev pub Grows : ℕ → Option (List Call) → Option (List Call) → Type 0
 Grows k old None = ⊤
 Grows k None (Some cs) = ⊥
 Grows k (Some cs) (Some ds) = IsFront (taken k cs) (taken k ds)
-
--- calls behind others by which some bytes were given, and none taken
-abbrev pub Gives : ℕ → Option (List Call) → Option (List Call) → List ℕ → Type 0
-Gives k old None part = ⊤
-Gives k None (Some cs) part = ⊥
-Gives k (Some cs) (Some ds) part = (taken k ds ≡ taken k cs) × (given k ds ≡ given k cs ++ part)
-    × (reads k ds ≡ reads k cs)

@@ -4,8 +4,10 @@ ghost use Rattle.std.specs.Prelude.{◌≡◌, ◌<◌, ◌≤◌, ◌+◌, ◌^
 ghost use Rattle.atspi_auth.specs.Talk.{after, behind, fault_in, told};
 ghost use Rattle.atspi_live_conversation.specs.Left.{LeavesOff};
 ghost use Rattle.atspi_live_conversation.specs.Speech.{line_bytes};
-ghost use Rattle.atspi_live_conversation.specs.Talking.{AttendsAll, BreaksOff, Converses, HearsNot, IsAtEase, IsOwn};
-ghost use Rattle.atspi_live_conversation.specs.Talking.{IsUttered, MaySpeak, TellsNot};
+ghost use Rattle.atspi_live_conversation.specs.Talking.{AttendsAll, Converses, IsAtEase};
+ghost use Rattle.atspi_live_conversation.specs.inner.Talking.{BreaksOff, HearsNot, IsOwn};
+ghost use Rattle.atspi_live_conversation.specs.Talking.{IsUttered, MaySpeak};
+ghost use Rattle.atspi_live_conversation.specs.inner.Talking.{TellsNot};
 
 use crate::attending::attend;
 use crate::conversation::Conversation;

@@ -9,8 +9,10 @@ ghost use Rattle.atspi_live_conversation.specs.Moved.{Grows, Tells};
 ghost use Rattle.atspi_live_conversation.specs.Rounds.{Breaks, IsRead, IsRound, IsRun, Makes};
 ghost use Rattle.atspi_live_conversation.specs.Speech.{Ends, Speaks};
 ghost use Rattle.atspi_live_conversation.specs.declared.ending.Ending.{Ending};
-ghost use Rattle.atspi_live_conversation.specs.Talking.{Blames, GivesPart, Going, HasNone, IsBroken, IsEnded};
-ghost use Rattle.atspi_live_conversation.specs.Talking.{MakesNext, MaySpeak, PutsFront, PutsIfAny, heard_in};
+ghost use Rattle.atspi_live_conversation.specs.Talking.{Blames, Going, HasNone, IsBroken, IsEnded};
+ghost use Rattle.atspi_live_conversation.specs.inner.Talking.{GivesPart};
+ghost use Rattle.atspi_live_conversation.specs.Talking.{MakesNext, MaySpeak, heard_in};
+ghost use Rattle.atspi_live_conversation.specs.inner.Talking.{PutsFront, PutsIfAny};
 
 use crate::conversation::Conversation;
 use crate::unsent::Unsent;

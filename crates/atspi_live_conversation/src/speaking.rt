@@ -1,7 +1,8 @@
 //! What an end says: its messages, on their way to the link.
 
 ghost use Rattle.std.specs.Prelude.{◌≡◌, ◌<◌, ℕ, List, [], false, IsTrue, IfOk, OnOk, length};
-ghost use Rattle.atspi_live_conversation.specs.Talking.{HasNone, MaySpeak, Says, SaysOne};
+ghost use Rattle.atspi_live_conversation.specs.Talking.{HasNone, MaySpeak, Says};
+ghost use Rattle.atspi_live_conversation.specs.inner.Talking.{SaysOne};
 
 use crate::BusEnd;
 use crate::unsent::Unsent;

@@ -1,5 +1,5 @@
 -- What a host did, as the list of its calls.
-use Rattle.std.specs.Prelude.{◌≡◌, ◌≢◌, ℕ, ◌<◌, ◌≤◌, ◌⊎◌, Bool, true, false, ◌==◌, List, [], ◌∷◌, ◌++◌, take, Option}
+use Rattle.std.specs.Prelude.{◌≡◌, ◌≢◌, ℕ, ◌<◌, ◌≤◌, ◌⊎◌, ◌==◌, List, ◌∷◌, ◌++◌, take, Option, []}
 use Rattle.std.specs.Prelude.{None, Some, ⊤, if◌then◌else◌}
 use Rattle.atspi_base.specs.Outside.{Rose}
 use Rattle.atspi_live_host.specs.declared.call.Did.{Did}
@@ -62,11 +62,6 @@ abbrev pub IsNew : ℕ → List ℕ → Type 0
 IsNew k [] = ⊤
 IsNew k (x ∷ xs) = (x ≢ k) × IsNew k xs
 
--- no two are the same
-abbrev pub Differ : List ℕ → Type 0
-Differ [] = ⊤
-Differ (x ∷ xs) = IsNew x xs × Differ xs
-
 -- a link that is given comes behind the others, and had no number of theirs
 abbrev pub Opens : List ℕ → List ℕ → Did → Type 0
 Opens old new (Done link) = (new ≡ old ++ link ∷ []) × IsNew link old
@@ -97,8 +92,3 @@ IsOpen k (x ∷ xs) = (x ≡ k) ⊎ IsOpen k xs
 abbrev pub without : ℕ → List ℕ → List ℕ
 without k [] = []
 without k (x ∷ xs) = if x == k then without k xs else x ∷ without k xs
-
--- what is told stays; or nothing is told any more
-abbrev pub Keeps : Bool → Option (List Call) → Option (List Call) → Type 0
-Keeps true old new = new ≡ old
-Keeps false old new = new ≡ None

@@ -1,8 +1,6 @@
 -- Numbers of links below the next one.
 use Rattle.std.specs.Prelude.{◌≡◌, ℕ, ◌+◌, ◌≤◌, List, Option, Some}
 use Rattle.std.specs.List.{All}
-use Rattle.atspi_live_host.specs.declared.call.Did.{Did}
-use Rattle.atspi_live_host.specs.declared.call.Did.TheVariants.{Done, NotYet, End, Failed}
 use Rattle.atspi_live_host.specs.declared.call.Call.{Call}
 use Rattle.atspi_live_host.specs.declared.call.Call.TheVariants.{Listen, Accept, Connect, Read, Write, Close}
 
@@ -18,10 +16,3 @@ bound (Close link) = 0
 -- all told calls that move bytes are on links below n
 abbrev pub ToldBelow : ℕ → Option (List Call) → Type 0
 ToldBelow n calls = (cs : List Call) → calls ≡ Some cs → All (λ c. bound c ≤ n) cs
-
--- a link that is given has the next number
-abbrev pub Follows : ℕ → ℕ → Did → Type 0
-Follows next after (Done link) = (link ≡ next) × (after ≡ next + 1)
-Follows next after NotYet = after ≡ next
-Follows next after End = after ≡ next
-Follows next after Failed = after ≡ next

@@ -4,7 +4,8 @@ ghost use Rattle.std.specs.Prelude.{◌≡◌, ◌<◌, ◌≤◌, [], Some, IfS
 ghost use Rattle.std.specs.Option.{option_map};
 ghost use Rattle.std.specs.List.{All};
 ghost use Rattle.atspi_live_host.specs.Calls.{Counts, Moves, Opens};
-ghost use Rattle.atspi_live_host.specs.Numbers.{ToldBelow, Follows};
+ghost use Rattle.atspi_live_host.specs.Numbers.{ToldBelow};
+ghost use Rattle.atspi_live_host.specs.inner.Numbers.{Follows};
 
 use crate::peer::Peer;
 use crate::tell::{fails, fault, has_room, room_for, tell, tell_given, tell_taken};

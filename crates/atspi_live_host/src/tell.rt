@@ -2,7 +2,8 @@
 
 ghost use Rattle.std.specs.Prelude.{◌≡◌, ◌≤◌, ◌<◌, ◌^◌, None, IsTrue, IfNone, IsSome, length};
 ghost use Rattle.std.specs.Option.{option_map};
-ghost use Rattle.atspi_live_host.specs.Calls.{Adds, Counts, Keeps, Moves, front};
+ghost use Rattle.atspi_live_host.specs.Calls.{Adds, Counts, Moves, front};
+ghost use Rattle.atspi_live_host.specs.inner.Calls.{Keeps};
 ghost use Rattle.atspi_live_host.specs.declared.call.Did.{Did};
 ghost use Rattle.atspi_live_host.specs.declared.call.Call.{Call};
 

@@ -71,8 +71,8 @@ pub fn what_gives_up()
     ensures neither { BeginsAnew (waiting Hello []) (failed 20 (codes ":1.7")) (codes ":1.7") → ⊥ }
 {}
 
-/// An item comes anew for a path of which the application, where it is held, has no row; not one of another application,
-/// and not for a row that is there.
+/// An item comes anew for a path of which the application, where it is held, has no row; not one of another
+/// application, and not for a row that is there.
 pub fn what_comes_anew()
     ensures there { lacks_row (Some (held (codes ":1.7") window)) (codes "/a") ≡ false }
     ensures not_there { lacks_row (Some (held (codes ":1.7") window)) (codes "/b") ≡ true }

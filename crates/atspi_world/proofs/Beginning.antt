@@ -14,7 +14,8 @@ use Rattle.atspi_trace.specs.Entry.{Entry, entry_of, entries_of, sent}
 use Rattle.atspi_trace.specs.World.{Role, the_registry, End, World, newcomer, first_world}
 use Rattle.atspi_trace.specs.Ends.{plain, put_up, is_app, is_reader, app_count, reader_count}
 use Rattle.atspi_trace.specs.Causes.{renews, joins}
-use Rattle.atspi_world_moves.specs.Beginning.{with_one_taken, IsGreeting, IsGreeted, IsHeard}
+use Rattle.atspi_world_moves.specs.Beginning.{with_one_taken, IsGreeting, IsGreeted}
+use Rattle.atspi_world_moves.specs.inner.Beginning.{IsHeard}
 use Rattle.atspi_world_moves.specs.Carried.{post_of, IsCarried}
 use Rattle.atspi_world_moves.specs.Linked.{IsLinked}
 use Rattle.atspi_world_moves.proofs.Beginning.{name, nobody_waits, calls, called_world, third_taken, called_carried, greeting_up, first_carried, heard, greeting_heard}

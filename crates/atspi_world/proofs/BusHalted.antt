@@ -17,7 +17,7 @@ use Rattle.atspi_world_moves.specs.Halted as halted
 use Rattle.atspi_world_moves.specs.Halted.{naming_of, AreNamedAs, HaveNames, HasRegistryFirst, IsAnother}
 use Rattle.atspi_world_moves.specs.Linked.{IsLinked}
 use Rattle.atspi_world_moves.specs.Moving.{MovesAt}
-use Rattle.atspi_world_moves.specs.Waits.{turn_of}
+use Rattle.atspi_world_moves.specs.inner.Waits.{turn_of}
 use Rattle.atspi_world_moves.specs.declared.waiting.Turn.TheVariants.{Route, Part, Get}
 use Rattle.atspi_world_moves.proofs.Ties.{post_at}
 use Rattle.atspi_protocol.specs.following.ReaderState.{ReaderState}

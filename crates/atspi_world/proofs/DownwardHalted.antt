@@ -12,7 +12,7 @@ use Rattle.atspi_world_moves.specs.Carried.{post_of}
 use Rattle.atspi_world_moves.specs.Linked.{given_of, BringsDown, ComesDown}
 use Rattle.atspi_world_moves.proofs.Ties.{post_at}
 use Rattle.atspi_trace.specs.play.Playing.{Playing}
-use Rattle.atspi_world_parties.specs.Spending.{GetsSpent}
+use Rattle.atspi_world_parties.specs.inner.Spending.{GetsSpent}
 use Rattle.atspi_world.specs.Halts.{WorkSpent}
 use Rattle.atspi_world_parties.specs.Taken.{Ends}
 use Rattle.atspi_world.specs.inner.Taken.{ends_in}

@@ -9,7 +9,7 @@ use Rattle.atspi_world_links.specs.declared.post.Post.{Post}
 use Rattle.atspi_trace.specs.World.{Letter, End, World}
 use Rattle.atspi_trace.specs.Ends.{end_at, with_end, rest_of, taken_down}
 use Rattle.atspi_world_moves.specs.Carried.{IsCarried}
-use Rattle.atspi_world_moves.specs.Downs.{messages_of}
+use Rattle.atspi_world_moves.specs.inner.Downs.{messages_of}
 use Rattle.atspi_world_moves.specs.Filled.{waits_for}
 use Rattle.atspi_world_moves.specs.Linked.{IsLinked, BringsDown}
 use Rattle.atspi_world_moves.proofs.Coming.{off_link, linked_taken, letter_spelled, letter_waits, always_enough}

@@ -7,7 +7,7 @@ use Rattle.atspi_trace.specs.World.{World}
 use Rattle.atspi_trace.specs.Work as work
 use Rattle.atspi_trace.specs.Work.{Work, work_of}
 use Rattle.atspi_trace.specs.play.Playing.{Playing}
-use Rattle.atspi_world_moves.specs.GivenUp.{UnlessGivenUp}
+use Rattle.atspi_world_moves.specs.inner.GivenUp.{UnlessGivenUp}
 use Rattle.atspi_world_moves.proofs.Rejoining.{entries_on}
 use Rattle.atspi_world.specs.Halts.{IsLineLost, IsLineSpent, LineLost, LineSpent, ManyTurns, WorkLost, WorkSpent}
 use Rattle.atspi_world.specs.Lines.{IsSegment, LineDone}

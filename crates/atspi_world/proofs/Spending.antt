@@ -29,7 +29,8 @@ use Rattle.atspi_world_moves.proofs.Ties.{post_at}
 use Rattle.atspi_trace.specs.play.Breaking.{IsPast, IsSpent}
 use Rattle.atspi_trace.specs.play.Playing.{Playing, Happened, silent}
 use Rattle.atspi_trace.specs.play.Plays.{only, got_at, got_by, reader_did, reader_got, told, with_reader, plays}
-use Rattle.atspi_world_parties.specs.Spending.{HasSpentAll, GetsSpent}
+use Rattle.atspi_world_parties.specs.Spending.{HasSpentAll}
+use Rattle.atspi_world_parties.specs.inner.Spending.{GetsSpent}
 use Rattle.atspi_world_parties.specs.Asked.{EditSpends, CallSpends}
 use Rattle.atspi_world.specs.Halts.{IsSpentBy}
 use Rattle.atspi_world_parties.specs.Taken as taking

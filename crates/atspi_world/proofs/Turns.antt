@@ -9,7 +9,7 @@ use Rattle.atspi_trace.specs.Causes.{Cause, does, routes, unjoins, gets}
 use Rattle.atspi_trace.specs.Work.{up_turn, down_turn, first_up, first_down, next_turn}
 use Rattle.atspi_world_moves.specs.Carried.{IsDone, IsCarried}
 use Rattle.atspi_world_moves.specs.Linked.{IsLinked}
-use Rattle.atspi_world_moves.specs.Waits.{turn_of}
+use Rattle.atspi_world_moves.specs.inner.Waits.{turn_of}
 use Rattle.atspi_world_moves.specs.declared.waiting.Turn.TheVariants.{Route, Part, Get}
 use Rattle.atspi_world_moves.proofs.Staying.{lives_so}
 use Rattle.atspi_trace.specs.play.Playing.{Playing}

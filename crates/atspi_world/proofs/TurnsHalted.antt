@@ -3,7 +3,7 @@ use Rattle.std.proofs.Common.{◌≡◌, ℕ, zero, suc, ◌+◌, ◌<◌, List,
 use Rattle.atspi_trace.specs.Entry.{Entry, entries_of}
 use Rattle.atspi_trace.specs.Causes.{Cause}
 use Rattle.atspi_trace.specs.Work.{Work, cause, next_of, next_turn, turning, draining, next_of_turns, next_of_drain}
-use Rattle.atspi_world_moves.specs.Waits.{turn_of, turn_next}
+use Rattle.atspi_world_moves.specs.inner.Waits.{turn_of, turn_next}
 use Rattle.atspi_world_moves.specs.declared.waiting.Turn.{Turn}
 use Rattle.atspi_trace.specs.play.Breaking.{PlayedTurns}
 use Rattle.atspi_trace.specs.play.Playing.{Playing, Happened}

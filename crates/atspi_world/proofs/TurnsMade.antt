@@ -8,7 +8,7 @@ use Rattle.atspi_trace.specs.World.{World}
 use Rattle.atspi_trace.specs.Causes.{Cause, tells_busy, tells_quiet}
 use Rattle.atspi_trace.specs.Work.{next_turn, turning, draining, resting, next_of_turns, next_of_drain}
 use Rattle.atspi_world_moves.specs.Waits as waits
-use Rattle.atspi_world_moves.specs.Waits.{turn_of, turn_next}
+use Rattle.atspi_world_moves.specs.inner.Waits.{turn_of, turn_next}
 use Rattle.atspi_world_moves.specs.declared.waiting.Turn.{Turn}
 use Rattle.atspi_world_moves.proofs.Turning.{turns_agree}
 use Rattle.atspi_trace.specs.play.Playing.{Playing}

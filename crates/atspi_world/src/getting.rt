@@ -7,7 +7,7 @@ ghost use Rattle.atspi_trace.specs.Causes.{gets};
 ghost use Rattle.atspi_trace.specs.Work as work;
 ghost use Rattle.atspi_trace.specs.play.Playing.{Playing};
 ghost use Rattle.atspi_trace.specs.play.Plays.{plays};
-ghost use Rattle.atspi_world_parties.specs.Spending.{GetsSpent};
+ghost use Rattle.atspi_world_parties.specs.inner.Spending.{GetsSpent};
 ghost use Rattle.atspi_world.specs.Halts.{IsSpentBy, WorkSpent};
 ghost use Rattle.atspi_world.specs.Lines.{IsSegment};
 ghost use Rattle.atspi_world.specs.Stage.{IsStage, posts_of, trace_of};

@@ -12,7 +12,7 @@ ghost use Rattle.atspi_trace.specs.play.Plays.{plays};
 ghost use Rattle.atspi_trace.specs.Ends.{app_count, reader_count};
 ghost use Rattle.atspi_trace.specs.Causes.{renews, starts_app, starts_reader};
 ghost use Rattle.atspi_trace.specs.Work.{spare_count};
-ghost use Rattle.atspi_world_moves.specs.Beginning.{IsHeard};
+ghost use Rattle.atspi_world_moves.specs.inner.Beginning.{IsHeard};
 ghost use Rattle.atspi_world.specs.inner.Hearing.{HearsAll};
 ghost use Rattle.atspi_world.specs.Stage.{IsStage, trace_of};
 ghost use Rattle.atspi_world.specs.Worlds.{staged, Happens, IsBegun, IsPlaying, with_kit};

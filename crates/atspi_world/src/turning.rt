@@ -6,7 +6,7 @@ ghost use Rattle.atspi_trace.specs.play.Plays.{plays};
 ghost use Rattle.atspi_trace.specs.Causes.{Cause};
 ghost use Rattle.atspi_trace.specs.Work as work;
 ghost use Rattle.atspi_trace.specs.Work.{next_turn};
-ghost use Rattle.atspi_world_moves.specs.Waits.{turn_of};
+ghost use Rattle.atspi_world_moves.specs.inner.Waits.{turn_of};
 ghost use Rattle.atspi_world.specs.Halts.{IsLostBy, IsSpentBy, ManyTurns, WorkLost, WorkSpent};
 ghost use Rattle.atspi_world.specs.Lines.{IsSegment, WorkDone};
 ghost use Rattle.atspi_world.specs.Stage.{IsStage};

@@ -44,9 +44,11 @@ use Rattle.atspi_trace.specs.Carrying.{Carried, Filled, letter_of, grew, with_le
 use Rattle.atspi_trace.specs.Causes.{Done, does, routed, routes, bus_did}
 use Rattle.atspi_trace.proofs.Maps.{maps, numbers_get, numbers_insert, numbers_first}
 use Rattle.atspi_trace.proofs.RulesRead.{rules_read}
-use Rattle.atspi_world_moves.specs.Beginning.{HasUp, with_one_taken, IsGreeting, IsGreeted, IsHeard}
+use Rattle.atspi_world_moves.specs.Beginning.{HasUp, with_one_taken, IsGreeting, IsGreeted}
+use Rattle.atspi_world_moves.specs.inner.Beginning.{IsHeard}
 use Rattle.atspi_world_moves.specs.Carried.{standing_at, bytes_up, post_of, IsCarried, IsDone}
-use Rattle.atspi_world_moves.specs.Downs.{messages_of, bytes_down, IsBegun, IsWaiting, Wait}
+use Rattle.atspi_world_moves.specs.Downs.{bytes_down, IsBegun, IsWaiting, Wait}
+use Rattle.atspi_world_moves.specs.inner.Downs.{messages_of}
 use Rattle.atspi_world_moves.specs.Filled.{waits_for, gave}
 use Rattle.atspi_world_moves.proofs.Downs.{letter_message}
 use Rattle.atspi_world_moves.proofs.Filling.{both_gone}

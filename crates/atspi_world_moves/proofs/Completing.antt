@@ -26,9 +26,11 @@ use Rattle.atspi_trace.specs.Works.{at_rest}
 use Rattle.atspi_world_links.specs.Changes.{changed_at}
 use Rattle.atspi_world_moves.specs.inner.Told.{gone, all_gone, whose}
 use Rattle.atspi_world_moves.specs.Carried.{standing_at, bytes_up, post_of, IsSendable, AreSendable, HasMark, IsWithin, IsCarried, IsDone}
-use Rattle.atspi_world_moves.specs.Halted.{HasRegistryFirst, IsLostBy, IsLostNext, IsSpentBy, IsSpentNext}
+use Rattle.atspi_world_moves.specs.Halted.{HasRegistryFirst, IsLostBy, IsSpentBy}
+use Rattle.atspi_world_moves.specs.inner.Halted.{IsLostNext, IsSpentNext}
 use Rattle.atspi_world_moves.specs.Segments.{IsWorked}
-use Rattle.atspi_world_moves.specs.Moving.{IsLacking, Moves, MovesAt, IsCompleted}
+use Rattle.atspi_world_moves.specs.Moving.{Moves, MovesAt}
+use Rattle.atspi_world_moves.specs.inner.Moving.{IsLacking, IsCompleted}
 use Rattle.atspi_world_links.proofs.Changes.{map-changed, map-changed_known, map-kept, get-map}
 use Rattle.atspi_world_moves.specs.Linked.{IsLinked}
 use Rattle.atspi_world_moves.proofs.Downs.{wait_same}

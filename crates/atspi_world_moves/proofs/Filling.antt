@@ -15,7 +15,8 @@ use Rattle.atspi_stream.proofs.StreamLaws.{Stated, message_states}
 use Rattle.atspi_bus_queues.specs.Change.{with_queue}
 use Rattle.atspi_bus_queues.proofs.Chains.{at_key, insert-insert}
 use Rattle.atspi_match.specs.routing.Queues.{Bus, or_nothing, queue_of}
-use Rattle.atspi_world_moves.specs.Filled.{waits_for, gave, IsGiven, IsAwaited, IsFilled}
+use Rattle.atspi_world_moves.specs.Filled.{waits_for, gave, IsGiven, IsFilled}
+use Rattle.atspi_world_moves.specs.inner.Filled.{IsAwaited}
 
 -- what is taken away in two pieces
 pub both_gone : (queues : FinMap nat_cmp (List ℕ)) (conn m n : ℕ) (o : Option (List ℕ)) → finmap.get queues conn ≡ o → (now : FinMap nat_cmp (List ℕ))

@@ -11,7 +11,7 @@ use Rattle.atspi_trace.specs.Causes.{Done}
 use Rattle.atspi_trace.specs.Work.{Work}
 use Rattle.atspi_world_moves.specs.Beginning.{with_one_taken, IsGreeted}
 use Rattle.atspi_world_moves.specs.Carried.{IsCarried, IsDone}
-use Rattle.atspi_world_moves.specs.GivenUp.{UnlessGivenUp}
+use Rattle.atspi_world_moves.specs.inner.GivenUp.{UnlessGivenUp}
 use Rattle.atspi_world_moves.specs.Halted.{does_next, HaveNames, IsLostBy, IsLostOn, IsPartDone, IsSpentBy, IsSpentOn}
 use Rattle.atspi_world_moves.specs.Linked.{IsLinked}
 use Rattle.atspi_world_moves.specs.Segments.{IsWorked}

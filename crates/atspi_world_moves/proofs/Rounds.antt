@@ -11,9 +11,11 @@ use Rattle.atspi_trace.specs.Work.{Work, moving_up}
 use Rattle.atspi_trace.specs.Works.{Works, caused}
 use Rattle.atspi_world_moves.specs.Carried.{IsCarried}
 use Rattle.atspi_world_moves.specs.Halted as halted
-use Rattle.atspi_world_moves.specs.Halted.{HasRegistryFirst, WorksOn, so_far, IsAtWork, HasNext, IsLostNext, IsSpentNext, IsLostOn, IsSpentOn}
+use Rattle.atspi_world_moves.specs.Halted.{HasRegistryFirst, WorksOn, so_far, IsAtWork, IsLostOn, IsSpentOn}
+use Rattle.atspi_world_moves.specs.inner.Halted.{HasNext, IsLostNext, IsSpentNext}
 use Rattle.atspi_world_moves.specs.Segments.{IsWorked}
-use Rattle.atspi_world_moves.specs.Moving.{IsLacking, MovesAt, IsCompleted, MovedSome, MovesSome}
+use Rattle.atspi_world_moves.specs.Moving.{MovesAt}
+use Rattle.atspi_world_moves.specs.inner.Moving.{IsLacking, IsCompleted, MovedSome, MovesSome}
 use Rattle.atspi_world_links.proofs.Changes.{set_same}
 use Rattle.atspi_world_moves.specs.Linked.{IsLinked}
 use Rattle.atspi_world_moves.proofs.Completing.{RoutesSo, LinksSo, LosesSo, SpendsSo, HasFirst, has_first, none_moved, first_moved, some_moved, lacks_none, all_moved, all_lost, all_spent, routes_first}

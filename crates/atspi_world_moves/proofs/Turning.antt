@@ -17,7 +17,8 @@ use Rattle.atspi_world_moves.specs.Downs.{bytes_down, IsBegun, IsWaiting}
 use Rattle.atspi_world_moves.specs.Filled.{waits_for}
 use Rattle.atspi_world_moves.specs.Linked.{given_of, IsLinked}
 use Rattle.atspi_world_moves.specs.Waits as waits
-use Rattle.atspi_world_moves.specs.Waits.{turn_next, up_turn_by, waits_below, waits_at}
+use Rattle.atspi_world_moves.specs.Waits.{up_turn_by, waits_below, waits_at}
+use Rattle.atspi_world_moves.specs.inner.Waits.{turn_next}
 use Rattle.atspi_world_moves.specs.declared.waiting.Turn.{Turn}
 use Rattle.atspi_world_moves.specs.declared.waiting.Turn.TheVariants.{Route, Get}
 use Rattle.atspi_world_links.proofs.Changes.{get-map}

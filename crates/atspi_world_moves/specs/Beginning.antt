@@ -1,5 +1,5 @@
 -- The beginning of a world: the bus takes the three calls of the registry's start, and what it returns comes down.
-use Rattle.std.specs.Prelude.{◌≡◌, ℕ, List, [], ◌∷◌, ◌++◌, Some}
+use Rattle.std.specs.Prelude.{◌≡◌, ℕ, List, ◌∷◌, ◌++◌, Some}
 use Rattle.atspi_match.specs.routing.Queues.{Bus}
 use Rattle.atspi_trace_events.specs.declared.event.Event.{Event}
 use Rattle.atspi_world_links.specs.declared.post.Post.{Post}
@@ -8,7 +8,6 @@ use Rattle.atspi_trace.specs.World.{here, Said, End, World}
 use Rattle.atspi_trace.specs.Ends.{end_at}
 use Rattle.atspi_trace.specs.Causes.{does, routes}
 use Rattle.atspi_world_moves.specs.Carried.{IsCarried}
-use Rattle.atspi_world_moves.specs.Filled.{waits_for, gave}
 
 -- a message waits on the up link of a connection whose end is there
 pub record HasUp (w : World) (conn : ℕ) : Type 0 where
@@ -38,9 +37,3 @@ pub record Extends (old new : List Event) : Type 0 where
 pub record IsGreeted (w : World) (conn : ℕ) (bus : Bus) (posts : List Post) (old new : List Event) : Type 0 where
   pub carried : IsCarried (with_one_taken (with_one_taken (with_one_taken w conn) conn) conn) bus posts
   pub extends : Extends old new
-
--- all that waited for a connection is gone from the bus
-pub record IsHeard (before after : Bus) (conn : ℕ) : Type 0 where
-  pub count : ℕ
-  pub gone : after ≡ gave before conn count
-  pub none : waits_for after conn ≡ []

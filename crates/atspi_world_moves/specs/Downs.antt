@@ -1,16 +1,11 @@
 -- What waits for an end: the bytes of the messages on its down link, less those that were moved.
-use Rattle.std.specs.Prelude.{◌≡◌, ◌<◌, ℕ, List, [], ◌∷◌, ◌++◌, length, map, drop, Some}
+use Rattle.std.specs.Prelude.{◌≡◌, ◌<◌, ℕ, List, ◌∷◌, ◌++◌, length, drop, Some, []}
 use Rattle.std.specs.FinMap.{FinMap}
 use Rattle.std.specs.Ordering.{nat_cmp}
-use Rattle.atspi_message.specs.Envelope.{Envelope}
 use Rattle.atspi_message.specs.Bytes.{written}
 use Rattle.atspi_match.specs.routing.Queues.{queue_of}
 use Rattle.atspi_trace.specs.World.{Letter, End}
 use Rattle.atspi_trace.specs.Ends.{end_at}
-
--- the messages of letters
-abbrev pub messages_of : List Letter → List Envelope
-messages_of letters = map (λ (l : Letter). l.said.message) letters
 
 abbrev pub bytes_down : List Letter → List ℕ
 bytes_down [] = []

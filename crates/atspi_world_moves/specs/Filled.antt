@@ -4,7 +4,7 @@ use Rattle.atspi_message.specs.Envelope.{Envelope}
 use Rattle.atspi_message.specs.Bytes.{IsMessage, written}
 use Rattle.atspi_bus_queues.specs.Change.{with_queue}
 use Rattle.atspi_match.specs.routing.Queues.{Bus, queue_of}
-use Rattle.atspi_stream.specs.Stream.{stated, AwaitsMore}
+use Rattle.atspi_stream.specs.Stream.{AwaitsMore}
 
 -- the bytes that wait for a connection
 abbrev pub waits_for : Bus → ℕ → List ℕ
@@ -21,11 +21,6 @@ pub record IsGiven (before after : Bus) (given given' : List ℕ) (conn count : 
   pub there : count ≤ length (waits_for before conn)
   pub bus : after ≡ gave before conn count
   pub put : given' ≡ given ++ take count (waits_for before conn)
-
--- no more than the next message awaits: what its first 16 bytes lack, and once these are there, what it lacks in whole
-pub record IsAwaited (given : List ℕ) (count : ℕ) : Type 0 where
-  pub front : length given < 16 → length given + count ≤ 16
-  pub whole : 16 ≤ length given → 0 < count → length given + count ≤ stated given
 
 -- no byte behind a message that these bytes begin with
 abbrev pub KeepsWithin : List ℕ → List ℕ → List ℕ → Type 0

@@ -1,7 +1,6 @@
 -- A carrier that is given up, for want of memory or for what no script comes to.
-use Rattle.std.specs.Prelude.{◌≡◌, ℕ, Bool, true, false, List, [], ◌++◌, Result, Ok, Err}
+use Rattle.std.specs.Prelude.{◌≡◌, ℕ, Bool, true, false, List, Result, Ok, Err, []}
 use Rattle.atspi_match.specs.routing.Queues.{Bus, empty_bus}
-use Rattle.atspi_bus_steps.specs.declared.inner.Inner.{Inner}
 use Rattle.atspi_trace_events.specs.declared.event.Event.{Event}
 use Rattle.atspi_world_links.specs.declared.post.Post.{Post}
 use Rattle.atspi_world_moves.specs.declared.fault.CarryFault.{CarryFault}
@@ -24,16 +23,3 @@ gives_up fault = false
 abbrev pub OnGivingUp : {A F : Type 0} → (F → Bool) → Result A F → Type 0 → Type 0
 OnGivingUp is_given_up (Ok done) holds = Unit {0}
 OnGivingUp is_given_up (Err fault) holds = is_given_up fault ≡ true → holds
-
--- and what holds in all other cases
-abbrev pub UnlessGivenUp : {A F : Type 0} → (F → Bool) → Result A F → Type 0 → Type 0
-UnlessGivenUp is_given_up (Ok done) holds = holds
-UnlessGivenUp is_given_up (Err fault) holds = is_given_up fault ≡ false → holds
-
--- what was told apart stands behind what was told before, and all else is as it was
-pub record IsRejoined (bus bus' : Inner) (posts posts' : List Post) (given given' : List (List ℕ))
-    (before apart new : List Event) : Type 0 where
-  pub bus_is : bus' ≡ bus
-  pub posts_are : posts' ≡ posts
-  pub given_are : given' ≡ given
-  pub told : new ≡ before ++ apart

@@ -1,5 +1,5 @@
 -- Where carrying stops: the registry is dropped, or the bus spent its serials.
-use Rattle.std.specs.Prelude.{◌≡◌, ◌⊎◌, ℕ, ◌<◌, true, false, List, [], ◌∷◌, ◌++◌, map, Option}
+use Rattle.std.specs.Prelude.{◌≡◌, ◌⊎◌, ℕ, ◌<◌, true, false, List, ◌∷◌, ◌++◌, map, Option, []}
 use Rattle.std.specs.List.{AllByRecursion}
 use Rattle.atspi_script_lines.specs.declared.line.Party.{Party}
 use Rattle.atspi_script_lines.specs.declared.line.Party.TheVariants.{Registry}
@@ -97,18 +97,3 @@ pub record IsSpentOn (w : World) (work : Work) (posts : List Post) (old new : Li
   pub front : (does_next at).entries ≡ part ++ missing
   pub wrote : entries_of new ≡ entries_of old ++ (at.entries ++ part)
   pub names : HaveNames at.moved posts ⊎ HaveNames (does_next at).world posts
-
--- the same of the very first cause
-pub record HasNext (w : World) (work : Work) : Type 0 where
-  pub moved : World
-  pub rest : Work
-  pub next : Cause
-  pub is_next : next_of w work ≡ cause next moved rest
-
-pub record IsLostNext (w : World) (work : Work) (posts : List Post) (old new : List Event) : Type 0 where
-  pub has : HasNext w work
-  pub lost : IsLostBy (does has.moved has.next) posts old new
-
-pub record IsSpentNext (w : World) (work : Work) (posts : List Post) (old new : List Event) : Type 0 where
-  pub has : HasNext w work
-  pub spent : IsSpentBy has.moved (does has.moved has.next) posts old new

@@ -1,27 +1,14 @@
 -- What waits first, by the connections, the bytes that wait for them, and what their ends were given.
-use Rattle.std.specs.Prelude.{ℕ, suc, nat_lt, ◌||◌, Bool, false, List, [], ◌∷◌, length, Option, None, Some, slice_get}
+use Rattle.std.specs.Prelude.{ℕ, suc, nat_lt, ◌||◌, Bool, false, List, ◌∷◌, length, Option, None, Some, slice_get, []}
 use Rattle.std.specs.Prelude.{if◌then◌else◌}
 use Rattle.atspi_tree_model.specs.Forest.{first_of}
 use Rattle.atspi_match.specs.routing.Queues.{Bus, or_nothing}
 use Rattle.atspi_world_links.specs.declared.post.Post.{Post}
 use Rattle.atspi_world_links.specs.declared.post.Standing.{Standing}
 use Rattle.atspi_world_links.specs.declared.post.Standing.TheVariants.{Here, Stopped, Away}
-use Rattle.atspi_trace.specs.Causes.{Cause, routes, unjoins, gets}
 use Rattle.atspi_world_moves.specs.declared.waiting.Turn.{Turn}
 use Rattle.atspi_world_moves.specs.declared.waiting.Turn.TheVariants.{Route, Part, Get}
 use Rattle.atspi_world_moves.specs.Filled.{waits_for}
-
--- a turn of the definitions, as the code names it: the bus takes a message, or an end that stopped, or an end takes a
--- message
-abbrev pub turn_of : Cause → Option Turn
-turn_of (routes conn) = Some (Route conn)
-turn_of (unjoins conn) = Some (Part conn)
-turn_of (gets conn) = Some (Get conn)
-turn_of c = None
-
-abbrev pub turn_next : Option Cause → Option Turn
-turn_next None = None
-turn_next (Some c) = turn_of c
 
 -- on an up link: a message, or that the end stopped
 abbrev pub up_turn_by : ℕ → Standing → List ℕ → Option Turn

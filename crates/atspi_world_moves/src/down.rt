@@ -4,7 +4,8 @@ ghost use Rattle.std.specs.Prelude.{◌≡◌, ◌<◌, ◌≤◌, ℕ, length, 
 ghost use Rattle.atspi_stream.specs.Stream.{AwaitsMore};
 ghost use Rattle.atspi_bus_steps.specs.InnerBus.{inner_of, state_of};
 ghost use Rattle.atspi_bus_steps.specs.Sound.{IsSound};
-ghost use Rattle.atspi_world_moves.specs.Filled.{gave, waits_for, FillsAt, GivesAt, IsAwaited, IsFilled, IsGiven};
+ghost use Rattle.atspi_world_moves.specs.Filled.{gave, waits_for, FillsAt, GivesAt, IsFilled, IsGiven};
+ghost use Rattle.atspi_world_moves.specs.inner.Filled.{IsAwaited};
 ghost use Rattle.atspi_world_moves.specs.Linked.{BringsDown};
 
 use crate::carrier::Carrier;

@@ -2,7 +2,7 @@
 
 ghost use Rattle.std.specs.Prelude.{◌≡◌, ◌<◌, ◌≤◌, ◌++◌, length, take, IfOk, OnErr};
 ghost use Rattle.atspi_stream.specs.Stream.{AwaitsMore};
-ghost use Rattle.atspi_world_moves.specs.Filled.{IsAwaited};
+ghost use Rattle.atspi_world_moves.specs.inner.Filled.{IsAwaited};
 
 use atspi_base::NoMemory;
 use atspi_world_links::{Link, missing};

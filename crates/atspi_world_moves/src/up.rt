@@ -12,10 +12,13 @@ ghost use Rattle.atspi_trace.specs.Ends.{end_at};
 ghost use Rattle.atspi_trace.specs.Causes.{does, routes};
 ghost use Rattle.atspi_trace.specs.Work.{moving_up};
 ghost use Rattle.atspi_world_moves.specs.Carried.{IsCarried, IsDone};
-ghost use Rattle.atspi_world_moves.specs.Halted.{HasRegistryFirst, IsLostBy, IsLostNext, IsLostOn, IsSpentBy};
-ghost use Rattle.atspi_world_moves.specs.Halted.{IsSpentNext, IsSpentOn};
+ghost use Rattle.atspi_world_moves.specs.Halted.{HasRegistryFirst, IsLostBy, IsLostOn, IsSpentBy};
+ghost use Rattle.atspi_world_moves.specs.inner.Halted.{IsLostNext};
+ghost use Rattle.atspi_world_moves.specs.Halted.{IsSpentOn};
+ghost use Rattle.atspi_world_moves.specs.inner.Halted.{IsSpentNext};
 ghost use Rattle.atspi_world_moves.specs.Linked.{IsLinked};
-ghost use Rattle.atspi_world_moves.specs.Moving.{IsLacking, MovesAll, MovesAt, MovesSome};
+ghost use Rattle.atspi_world_moves.specs.Moving.{MovesAll, MovesAt};
+ghost use Rattle.atspi_world_moves.specs.inner.Moving.{IsLacking, MovesSome};
 ghost use Rattle.atspi_world_moves.specs.inner.Routed.{IsSpentTaking, IsTaken, RoutesFront, SpendsAtFront, TakesFront};
 
 use crate::carrier::Carrier;

@@ -4,7 +4,8 @@ use Rattle.std.specs.Prelude.{slice_set}
 use Rattle.std.proofs.lemmas.Option.{get_or_from_slice_get}
 use Rattle.atspi_message.specs.Bytes.{written}
 use Rattle.atspi_protocol.specs.registering.Steps.{Registry}
-use Rattle.atspi_world_parties.specs.Hearing.{HearsOff, HearsAt}
+use Rattle.atspi_world_parties.specs.Hearing.{HearsAt}
+use Rattle.atspi_world_parties.specs.inner.Hearing.{HearsOff}
 
 -- what lies at the end of a connection is taken
 pub heard_at : (given : List (List ℕ)) (conn : ℕ) (lay lies : List ℕ) (r t : Registry) → HearsOff (get_or given conn lay) lies r t → HearsAt given (slice_set given conn lies) conn r t

@@ -22,7 +22,8 @@ use Rattle.atspi_world_links.proofs.Changes.{length-changed}
 use Rattle.atspi_trace.specs.play.Playing.{silent}
 use Rattle.atspi_trace.specs.play.Plays.{of_app}
 use Rattle.atspi_world_ends.specs.Done.{done_of}
-use Rattle.atspi_world_parties.specs.Doing.{sent_on, IsSent, told_by, messages, all_sent, IsToldAll, TellsOne, TellsAll}
+use Rattle.atspi_world_parties.specs.Doing.{sent_on, IsSent, told_by, messages, all_sent, IsToldAll, TellsAll}
+use Rattle.atspi_world_parties.specs.inner.Doing.{TellsOne}
 
 -- CHANGES of one of many
 module _ {X : Type 0} where

@@ -1,5 +1,5 @@
 -- What an end did, put on its link and into the trace.
-use Rattle.std.specs.Prelude.{◌≡◌, ◌<◌, ℕ, List, [], ◌∷◌, ◌++◌, flat_map, length, map, slice_get, slice_set, Option}
+use Rattle.std.specs.Prelude.{◌≡◌, ◌<◌, ℕ, List, ◌∷◌, ◌++◌, flat_map, length, map, slice_get, slice_set, Option, []}
 use Rattle.std.specs.Prelude.{Some, Ok}
 use Rattle.std.specs.List.{AllByRecursion}
 use Rattle.atspi_tree_model.specs.declared.edit.Edit.{Edit}
@@ -108,10 +108,6 @@ pub record IsToldAll (reader : ℕ) (ds : List following.Done) (conn : ℕ) (pos
   pub posts_are : posts' ≡ changed_at conn (all_sent (messages ds)) posts
   pub wrote : entries_of new ≡ entries_of old ++ flat_map (told_by reader posts) ds
   pub written_ : AllByRecursion (λ e. IsMessage e (written e)) (messages ds)
-
--- of one thing that it did
-abbrev pub TellsOne : following.Done → ℕ → ℕ → List Post → List Post → List Event → List Event → Type 0
-TellsOne d reader conn posts posts' old new = conn < length posts → IsToldAll reader (d ∷ []) conn posts posts' old new
 
 abbrev pub TellsAll : ReaderState → ℕ → ℕ → List Post → List Post → List Event → List Event → Type 0
 TellsAll s reader conn posts posts' old new = conn < length posts → IsToldAll reader s.out conn posts posts' old new

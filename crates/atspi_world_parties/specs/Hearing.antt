@@ -1,5 +1,5 @@
 -- What the registry takes of the bytes that lie at its end, at its start: nothing of that is told.
-use Rattle.std.specs.Prelude.{◌≡◌, ℕ, List, [], ◌++◌, length, Option, Some, slice_get, slice_set}
+use Rattle.std.specs.Prelude.{◌≡◌, ℕ, List, length, Option, Some, slice_get, slice_set, []}
 use Rattle.atspi_message.specs.Envelope.{Envelope}
 use Rattle.atspi_message.specs.Bytes.{IsMessage, written}
 use Rattle.atspi_protocol.specs.registering.Steps.{Registry, takes}
@@ -8,19 +8,6 @@ use Rattle.atspi_protocol.specs.registering.Steps.{Registry, takes}
 pub record HeardFront (m : Envelope) (r t : Registry) (len : Option ℕ) : Type 0 where
   pub long : len ≡ Some (length (written m))
   pub took : t ≡ takes r m
-
-abbrev pub HearsFront : List ℕ → Registry → Registry → Option ℕ → Type 0
-HearsFront bytes r t len = (m : Envelope) (rest : List ℕ) → IsMessage m (written m) → bytes ≡ written m ++ rest
-    → HeardFront m r t len
-
--- and what lay behind it lies there still
-pub record HeardOff (m : Envelope) (rest after : List ℕ) (r t : Registry) : Type 0 where
-  pub left : after ≡ rest
-  pub took : t ≡ takes r m
-
-abbrev pub HearsOff : List ℕ → List ℕ → Registry → Registry → Type 0
-HearsOff bytes after r t = (m : Envelope) (rest : List ℕ) → IsMessage m (written m) → bytes ≡ written m ++ rest
-    → HeardOff m rest after r t
 
 -- the same of a message that lies whole and alone at the end of a connection
 pub record HeardAt (m : Envelope) (given given' : List (List ℕ)) (conn : ℕ) (r t : Registry) : Type 0 where

@@ -1,3 +1,4 @@
+pub mod inner
 pub mod Asked
 pub mod Doing
 pub mod Hearing

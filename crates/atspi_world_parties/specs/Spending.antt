@@ -1,5 +1,5 @@
 -- An end spends its serials: its next one would be above the last.
-use Rattle.std.specs.Prelude.{◌≡◌, ℕ, List, [], ◌∷◌, ◌++◌, Some, slice_get}
+use Rattle.std.specs.Prelude.{◌≡◌, ℕ, List, ◌∷◌, ◌++◌, Some, slice_get, []}
 use Rattle.atspi_trace_events.specs.declared.event.Event.{Event}
 use Rattle.atspi_script_lines.specs.declared.line.Party.{Party}
 use Rattle.atspi_script_lines.specs.declared.line.Party.TheVariants.{Bus as The_bus, Registry, App, Reader}
@@ -31,8 +31,3 @@ pub record SpendsFront (bytes : List ℕ) (posts : List Post) (taker : Party) (e
   pub whole : (m : Envelope) (rest : List ℕ) → IsMessage m (written m) → bytes ≡ written m ++ rest
       → IsSpentWith m posts taker ends old new
   pub part : AwaitsMore bytes → ⊥
-
--- the same of what lies at an end
-abbrev pub GetsSpent : ℕ → List Post → List (List ℕ) → Ends → List Event → List Event → Type 0
-GetsSpent conn posts given ends old new = (p : Post) (bytes : List ℕ) → slice_get posts conn ≡ Some p
-    → slice_get given conn ≡ Some bytes → SpendsFront bytes posts p.who ends old new

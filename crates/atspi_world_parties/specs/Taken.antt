@@ -1,5 +1,5 @@
 -- What an end takes of the bytes that lie at it: the message that they begin with, and the others stay.
-use Rattle.std.specs.Prelude.{◌≡◌, ℕ, Bool, true, false, List, [], ◌∷◌, ◌++◌, length, map, Option, None, Some}
+use Rattle.std.specs.Prelude.{◌≡◌, ℕ, Bool, true, false, List, ◌∷◌, ◌++◌, length, map, Option, Some, []}
 use Rattle.atspi_message.specs.Envelope.{Envelope}
 use Rattle.atspi_message.specs.Bytes.{IsMessage, written}
 use Rattle.atspi_script_lines.specs.declared.line.Party.{Party}
@@ -59,15 +59,6 @@ pub record IsHanded (m : Envelope) (posts : List Post) (taker : Party) (ends end
   pub long : len ≡ Some (length (written m))
   pub told : new ≡ old ++ got_by taker posts m ∷ []
   pub taken : ends' ≡ ends_after taker m ends
-
-abbrev pub HandsFront : List ℕ → List Post → Party → Ends → Ends → List Event → List Event → Option ℕ → Type 0
-HandsFront bytes posts taker ends ends' old new len =
-    (m : Envelope) (rest : List ℕ) → IsMessage m (written m) → bytes ≡ written m ++ rest
-    → IsHanded m posts taker ends ends' old new len
-
--- of bytes that await more nothing is handed
-abbrev pub HandsNothing : List ℕ → Ends → Ends → List Event → List Event → Option ℕ → Type 0
-HandsNothing bytes ends ends' old new len = AwaitsMore bytes → (len ≡ None) × ((ends' ≡ ends) × (new ≡ old))
 
 -- and what lay behind it lies there still
 pub record IsTakenOff (m : Envelope) (rest after : List ℕ) (posts : List Post) (taker : Party) (ends ends' : Ends)

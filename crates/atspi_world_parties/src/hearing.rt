@@ -1,7 +1,8 @@
 //! What the registry takes at its start, of which nothing is told.
 
 ghost use Rattle.std.specs.Prelude.{◌<◌, ◌≤◌, length, IfOk, IfSome, OnOk};
-ghost use Rattle.atspi_world_parties.specs.Hearing.{HearsFront, HearsOff, HearsAt};
+ghost use Rattle.atspi_world_parties.specs.Hearing.{HearsAt};
+ghost use Rattle.atspi_world_parties.specs.inner.Hearing.{HearsFront, HearsOff};
 
 use atspi_protocol::ends::EndFault;
 use atspi_registry::Registry;

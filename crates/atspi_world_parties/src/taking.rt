@@ -5,7 +5,8 @@ ghost use Rattle.atspi_message_in_place.specs.View.{envelope_at};
 ghost use Rattle.atspi_trace_events.specs.declared.event.Event.TheVariants as events;
 ghost use Rattle.atspi_world_links.specs.Named as named;
 ghost use Rattle.atspi_world_parties.specs.Spending.{HasSpentAll, SpendsFront};
-ghost use Rattle.atspi_world_parties.specs.Taken.{ends_after, ends_of, HandsFront, HandsNothing, TakesFront};
+ghost use Rattle.atspi_world_parties.specs.Taken.{ends_after, ends_of, TakesFront};
+ghost use Rattle.atspi_world_parties.specs.inner.Taken.{HandsFront, HandsNothing};
 ghost use Rattle.atspi_world_parties.specs.Taken.{TakesNothing};
 
 use crate::cast::Cast;

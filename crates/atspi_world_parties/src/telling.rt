@@ -8,7 +8,8 @@ ghost use Rattle.atspi_trace.specs.Entry.{entries_of};
 ghost use Rattle.atspi_trace.specs.Causes.{did};
 ghost use Rattle.atspi_trace.specs.play.Playing.{silent};
 ghost use Rattle.atspi_world_parties.specs.Doing.{said_on, CanBeWritten, IsRegistryTold, IsSent, IsTold, TellsAll};
-ghost use Rattle.atspi_world_parties.specs.Doing.{TellsOne, TellsAt, TellsFirst, TellsReaderAt};
+ghost use Rattle.atspi_world_parties.specs.Doing.{TellsAt, TellsFirst, TellsReaderAt};
+ghost use Rattle.atspi_world_parties.specs.inner.Doing.{TellsOne};
 ghost use Rattle.atspi_world_parties.specs.Taken.{ends_of, Tells};
 
 use crate::cast::Cast;

@@ -7,7 +7,8 @@ use Rattle.atspi_protocol.specs.members.Table.{MemberLine, PropertyLine}
 use Rattle.atspi_protocol.specs.members.Objects.{Object, is_among}
 use Rattle.atspi_app_calls.specs.declared.interface.AppInterface.{AppInterface}
 use Rattle.atspi_app_calls.specs.declared.object.AppObject.{AppObject}
-use Rattle.atspi_app_calls.specs.Interface.{interface_name, of_interface, lines_in}
+use Rattle.atspi_app_calls.specs.Interface.{interface_name}
+use Rattle.atspi_app_calls.specs.inner.Interface.{of_interface, lines_in}
 use Rattle.atspi_app_calls.specs.Object.{object_of}
 
 -- the first of some lines with this name

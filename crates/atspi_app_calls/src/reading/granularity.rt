@@ -5,8 +5,8 @@ ghost use Rattle.atspi_protocol.specs.members.Granularity.{grain_of};
 
 use atspi_units::Grain;
 
-/// The pieces that a number of AtspiTextGranularity asks for: 0 characters, 1 words, 3 and 4 lines. None for sentences and
-/// for other numbers.
+/// The pieces that a number of AtspiTextGranularity asks for: 0 characters, 1 words, 3 and 4 lines. None for sentences
+/// and for other numbers.
 pub fn grain_of(number: u32) -> Option<Grain>
     ensures { result ≡ grain_of number }
 {

@@ -27,7 +27,8 @@ use Rattle.atspi_app_contents.specs.texts.Texts.{text_at}
 use Rattle.atspi_app_contents.specs.values.Actions.{actions_in}
 use Rattle.atspi_app_contents.specs.values.Numbers.{is_selected_there, selected_among, columns_in, cell_in, node_at, row_in, column_in, is_selected_row_there, rows_selected}
 use Rattle.atspi_app_contents.specs.values.Seen.{faces_of, seen}
-use Rattle.atspi_app_contents.specs.answers.Told.{Tells, TellsText, TellsActions, TellsOne, TellsCells, IsProperty, reads_text, reads_selection, reads_table, reads_actions, reads_contents}
+use Rattle.atspi_app_contents.specs.answers.Told.{Tells, IsProperty, reads_text, reads_selection, reads_table, reads_actions, reads_contents}
+use Rattle.atspi_app_contents.specs.answers.inner.Told.{TellsText, TellsActions, TellsOne, TellsCells}
 use Rattle.atspi_app_contents.proofs.OfValues.Seen.{found_number, kids_seen, kids_same, chosen_seen, length_same, at_same}
 use Rattle.atspi_app_contents.proofs.OfAnswers.Rows.{text_seen, told_at}
 use Rattle.atspi_app_contents.proofs.OfAnswers.Tables.{cell_seen, accessible_seen, selected_seen, row_seen, column_seen, row_selected_seen, rows_seen, row_count_seen}

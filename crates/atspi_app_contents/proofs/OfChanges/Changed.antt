@@ -29,7 +29,7 @@ use Rattle.atspi_app_contents.specs.values.Numbers.{is_selected, node_at, select
 use Rattle.atspi_app_contents.specs.values.Seen.{seen}
 use Rattle.atspi_app_contents.proofs.OfValues.Seen.{Same, numbers_of, found_number, kids_seen, kids_same, chosen_seen}
 use Rattle.atspi_app_contents.specs.changes.inner.Steps.{granted, at_place, at_places, exchanged, removed, replaced_at, differs, choosing, unchosen}
-use Rattle.atspi_app_contents.specs.changes.Changing.{ChangesText, ChangesActions, ChangesChildren}
+use Rattle.atspi_app_contents.specs.changes.inner.Changing.{ChangesText, ChangesActions, ChangesChildren}
 use Rattle.atspi_app_contents.proofs.OfChanges.EditLemmas.{place_same, places_same, at_by, between_by, found, edited_is}
 use Rattle.atspi_app_contents.proofs.OfChanges.Exchanged.{text_known, exchange_seen}
 

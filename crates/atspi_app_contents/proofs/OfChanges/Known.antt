@@ -19,7 +19,8 @@ use Rattle.atspi_app_contents.specs.texts.Texts.{text_at, text_or_none, contents
 use Rattle.atspi_app_contents.specs.values.Actions.{actions_in}
 use Rattle.atspi_app_contents.specs.values.Seen.{faces_of}
 use Rattle.atspi_app_contents.proofs.OfValues.Seen.{found_number}
-use Rattle.atspi_app_contents.specs.changes.Changing.{Changes, ChangesText, ChangesActions, ChangesChildren, changes_text, changes_children, acts, changes_contents}
+use Rattle.atspi_app_contents.specs.changes.Changing.{Changes, changes_text, changes_children, acts, changes_contents}
+use Rattle.atspi_app_contents.specs.changes.inner.Changing.{ChangesText, ChangesActions, ChangesChildren}
 
 pub known_lawful : (texts : Nodes) (n : ℕ) → IsText (text_at texts n) → IsKnown (contents_at texts n)
 known_lawful texts n h = by (get texts n) h

@@ -15,7 +15,8 @@ use Rattle.atspi_faces.specs.face.Nodes.{Nodes, AreContents, HasText, HasPart, c
 use Rattle.atspi_protocol.specs.objects.Texts.{part_of}
 use Rattle.atspi_app_contents.specs.texts.inner.Parts.{start_at, end_at}
 use Rattle.atspi_app_contents.specs.texts.inner.Selections.{IsSmall, AreSmall}
-use Rattle.atspi_app_contents.specs.texts.Texts.{text_at, text_or_none, contents_at, code_of}
+use Rattle.atspi_app_contents.specs.texts.Texts.{text_at, text_or_none, contents_at}
+use Rattle.atspi_app_contents.specs.texts.inner.Texts.{code_of}
 
 whole_taken : (xs : List ℕ) → take (length xs) xs ≡ xs
 whole_taken [] = refl

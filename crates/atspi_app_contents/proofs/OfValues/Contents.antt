@@ -11,7 +11,8 @@ use Rattle.atspi_tree_model.specs.declared.contents.FaceKind.TheVariants.{Grid a
 use Rattle.atspi_faces.specs.face.Contents.{count_of, part_of, IsPart}
 use Rattle.atspi_faces.specs.face.Nodes.{Nodes, AreContents, HasPart, count_at, part_at}
 use Rattle.atspi_protocol.specs.objects.Answers.{name_data}
-use Rattle.atspi_app_contents.specs.values.Actions.{actions_in, name_or_empty}
+use Rattle.atspi_app_contents.specs.values.Actions.{actions_in}
+use Rattle.atspi_app_contents.specs.values.inner.Actions.{name_or_empty}
 use Rattle.atspi_app_contents.specs.values.Numbers.{columns_in}
 
 pub columns_counted : (kind : FaceKind) (is : kind ≡ grid_kind) (nodes : Nodes) (kept : AreContents kind nodes) (n : ℕ) → count_at nodes n ≡ columns_in (get nodes n)

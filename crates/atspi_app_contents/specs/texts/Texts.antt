@@ -1,5 +1,5 @@
 -- The texts of nodes as a face keeps them.
-use Rattle.std.specs.Prelude.{◌≡◌, ℕ, [], Option, None, Some}
+use Rattle.std.specs.Prelude.{◌≡◌, ℕ, Option, Some, []}
 use Rattle.std.specs.Option.{option_map_or}
 use Rattle.std.specs.FinMap.{get}
 use Rattle.atspi_tree_model.specs.declared.contents.FaceData.{FaceData}
@@ -26,8 +26,3 @@ contents_at texts n = text_or_none (get texts n)
 pub record KeepsText (of_kind : FaceKind) (texts : Nodes) (n : ℕ) : Type 0 where
   pub kind : of_kind ≡ chars_kind
   pub lawful : IsText (text_at texts n)
-
--- a character's code point, 0 where there is none
-abbrev pub code_of : Option ℕ → ℕ
-code_of None = 0
-code_of (Some c) = c

@@ -2,3 +2,4 @@
 pub mod Parts
 pub mod Places
 pub mod Selections
+pub mod Texts

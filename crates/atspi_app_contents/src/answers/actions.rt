@@ -5,7 +5,8 @@ ghost use Rattle.atspi_types.specs.Data.{Data};
 ghost use Rattle.atspi_types.specs.DataView.{data_of};
 ghost use Rattle.atspi_marshal_in_place.specs.Items.{fields_data};
 ghost use Rattle.atspi_faces.specs.face.Nodes.{Nodes};
-ghost use Rattle.atspi_app_contents.specs.answers.Told.{TellsActions, reads_actions};
+ghost use Rattle.atspi_app_contents.specs.answers.Told.{reads_actions};
+ghost use Rattle.atspi_app_contents.specs.answers.inner.Told.{TellsActions};
 
 use crate::values::{action_list, action_name};
 use atspi_app_calls::reading::first_signed;

@@ -5,7 +5,8 @@ ghost use Rattle.atspi_types.specs.DataView.{data_of};
 ghost use Rattle.atspi_marshal_in_place.specs.Items.{fields_data};
 ghost use Rattle.atspi_tree_model.specs.Forest.{has};
 ghost use Rattle.atspi_tree_model.specs.Tree.{is_shape};
-ghost use Rattle.atspi_app_contents.specs.answers.Told.{TellsOne, reads_selection};
+ghost use Rattle.atspi_app_contents.specs.answers.Told.{reads_selection};
+ghost use Rattle.atspi_app_contents.specs.answers.inner.Told.{TellsOne};
 
 use crate::values::{is_selected_there, place_of, selected_child};
 use atspi_app_calls::reading::first_signed;

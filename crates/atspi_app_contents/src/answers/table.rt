@@ -8,7 +8,8 @@ ghost use Rattle.atspi_tree_model.specs.Forest.{has};
 ghost use Rattle.atspi_tree_model.specs.Tree.{is_shape};
 ghost use Rattle.atspi_protocol.specs.objects.Tables.{index_or_none};
 ghost use Rattle.atspi_app_contents.specs.values.Numbers.{IsFew};
-ghost use Rattle.atspi_app_contents.specs.answers.Told.{TellsCells, reads_table};
+ghost use Rattle.atspi_app_contents.specs.answers.Told.{reads_table};
+ghost use Rattle.atspi_app_contents.specs.answers.inner.Told.{TellsCells};
 
 use crate::values::{
     cell_at, cell_index, cells_of, column_of, is_row_selected, is_selected_there, place_of, row_of,

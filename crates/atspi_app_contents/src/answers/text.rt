@@ -5,7 +5,8 @@ ghost use Rattle.atspi_types.specs.Data.{Data};
 ghost use Rattle.atspi_types.specs.DataView.{data_of, all_data};
 ghost use Rattle.atspi_marshal_in_place.specs.Items.{fields_data};
 ghost use Rattle.atspi_app_contents.specs.texts.Texts.{KeepsText};
-ghost use Rattle.atspi_app_contents.specs.answers.Told.{TellsText, reads_text};
+ghost use Rattle.atspi_app_contents.specs.answers.Told.{reads_text};
+ghost use Rattle.atspi_app_contents.specs.answers.inner.Told.{TellsText};
 
 use crate::texts::{character, part, piece, selection, selection_count};
 use atspi_app_calls::reading::{first_signed, grain_of, second_signed, second_unsigned};

@@ -10,7 +10,8 @@ ghost use Rattle.atspi_tree_model.specs.declared.contents.FaceData.TheVariants.{
 ghost use Rattle.atspi_tree_model.specs.Edits.{IsEdit};
 ghost use Rattle.atspi_tree_edits.specs.Answers.{edit_steps};
 ghost use Rattle.atspi_app_contents.specs.changes.inner.Steps.{choosing, granted, unchosen};
-ghost use Rattle.atspi_app_contents.specs.changes.Changing.{ChangesChildren, changes_children};
+ghost use Rattle.atspi_app_contents.specs.changes.Changing.{changes_children};
+ghost use Rattle.atspi_app_contents.specs.changes.inner.Changing.{ChangesChildren};
 
 use crate::changes::arguments::place;
 use crate::changes::edited::granted;

@@ -5,7 +5,7 @@ ghost use Rattle.atspi_marshal_in_place.specs.Items.{fields_data};
 ghost use Rattle.atspi_tree_model.specs.Edits.{IsEdit};
 ghost use Rattle.atspi_tree_edits.specs.Answers.{IsKnown, edit_steps};
 ghost use Rattle.atspi_app_contents.specs.changes.inner.Steps.{and_more, granted};
-ghost use Rattle.atspi_app_contents.specs.changes.Changing.{ChangesActions};
+ghost use Rattle.atspi_app_contents.specs.changes.inner.Changing.{ChangesActions};
 
 use crate::changes::arguments::place;
 use atspi_app_calls::reading::first_signed;

@@ -7,7 +7,8 @@ ghost use Rattle.atspi_tree_model.specs.declared.edit.Edit.TheVariants.{Put};
 ghost use Rattle.atspi_tree.specs.TreeShape.{TreeShape};
 ghost use Rattle.atspi_tree_edits.specs.Answers.{IsKnown, edit_steps};
 ghost use Rattle.atspi_app_contents.specs.changes.inner.Steps.{exchanged, granted};
-ghost use Rattle.atspi_app_contents.specs.changes.Changing.{ChangesText, changes_text};
+ghost use Rattle.atspi_app_contents.specs.changes.Changing.{changes_text};
+ghost use Rattle.atspi_app_contents.specs.changes.inner.Changing.{ChangesText};
 
 use crate::changes::arguments::{first_owned, place, second_owned};
 use crate::changes::edited::{and_more, granted};

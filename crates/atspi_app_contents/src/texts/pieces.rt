@@ -115,9 +115,9 @@ fn place_in(place: i32, count: u32) -> Option<u32>
     Some(place as u32)
 }
 
-/// The piece of a node's text that holds the character at a place: its characters, where it starts and where the next one
-/// does. No characters, and -1 twice, where there is no such character, or it is not said which pieces are meant. The one
-/// refusal is want of memory.
+/// The piece of a node's text that holds the character at a place: its characters, where it starts and where the next
+/// one does. No characters, and -1 twice, where there is no such character, or it is not said which pieces are meant.
+/// The one refusal is want of memory.
 pub fn piece<C: Face>(
     alloc: Global,
     texts: &C,

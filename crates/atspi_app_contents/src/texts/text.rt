@@ -7,7 +7,8 @@ ghost use Rattle.atspi_protocol.specs.objects.Texts as texts_of;
 ghost use Rattle.atspi_protocol.specs.objects.Children as children;
 ghost use Rattle.atspi_protocol.specs.objects.Values as values;
 ghost use Rattle.atspi_app_contents.specs.texts.inner.Parts as parts;
-ghost use Rattle.atspi_app_contents.specs.texts.Texts.{KeepsText, text_at, code_of};
+ghost use Rattle.atspi_app_contents.specs.texts.Texts.{KeepsText, text_at};
+ghost use Rattle.atspi_app_contents.specs.texts.inner.Texts.{code_of};
 
 use crate::texts::values::{count, empty};
 use atspi_base::{NoMemory, Text};

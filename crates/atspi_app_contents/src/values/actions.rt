@@ -9,7 +9,8 @@ ghost use Rattle.atspi_types.specs.DataView.{data_of};
 ghost use Rattle.atspi_tree_model.specs.declared.contents.FaceData.TheVariants as contents;
 ghost use Rattle.atspi_protocol.specs.objects.Answers.{name_data, actions_data};
 ghost use Rattle.atspi_protocol.specs.objects.Children as children;
-ghost use Rattle.atspi_app_contents.specs.values.Actions.{actions_in, name_or_empty};
+ghost use Rattle.atspi_app_contents.specs.values.Actions.{actions_in};
+ghost use Rattle.atspi_app_contents.specs.values.inner.Actions.{name_or_empty};
 
 use crate::values::values::empty;
 use atspi_base::{NoMemory, Text, Texts};

@@ -5,7 +5,8 @@ use Rattle.atspi_protocol.specs.exporting.Exporter.{Happening, steps, sends, hea
 use Rattle.atspi_protocol.proofs.OfExporting.Queued.{numbered-append}
 use Rattle.atspi_app_known.specs.declared.happenings.event.AppEvent.{AppEvent}
 use Rattle.atspi_app_known.specs.declared.happenings.event.AppEvent.TheVariants as events
-use Rattle.atspi_app_known.specs.happenings.Happened.{happening_of, all_happened, sent_by, is_sent}
+use Rattle.atspi_app_known.specs.happenings.Happened.{happening_of, all_happened, sent_by}
+use Rattle.atspi_app_known.specs.happenings.inner.Happened.{is_sent}
 
 pub sent-append : (hs ks : List Happening) → sent_in (hs ++ ks) ≡ sent_in hs + sent_in ks
 sent-append [] ks = omega arith

@@ -4,7 +4,7 @@ use Rattle.std.specs.Prelude.{encode_utf8_all}
 use Rattle.std.proofs.lemmas.Str.{chars-IsAscii, encodes-chars, encodes-IsAscii}
 use Rattle.atspi_base.specs.valid_names.Names.{is_bus_name}
 use Rattle.atspi_base.proofs.OfValidNames.NameLemmas.{IsAscii-IsBusName, IsBusName-from_test}
-use Rattle.atspi_app_known.specs.hearing.Lent.{pair_by}
+use Rattle.atspi_app_known.specs.hearing.inner.Lent.{pair_by}
 
 pub name_plain : (s : List ℕ) → is_bus_name s ≡ true → chars s ≡ s
 name_plain s e = chars-IsAscii s (IsAscii-IsBusName s (IsBusName-from_test s e))

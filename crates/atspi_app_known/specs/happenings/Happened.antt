@@ -1,5 +1,5 @@
 -- How contracts see what happens at an application.
-use Rattle.std.specs.Prelude.{ℕ, Bool, true, false, List, map}
+use Rattle.std.specs.Prelude.{ℕ, List, map}
 use Rattle.atspi_message.specs.Envelope.{envelope_of}
 use Rattle.atspi_protocol.specs.exporting.Exporter.{Happening, steps, sends, hears, deaf, sent_in}
 use Rattle.atspi_app_known.specs.declared.happenings.event.AppEvent.{AppEvent}
@@ -17,8 +17,3 @@ all_happened events = map happening_of events
 -- how many of them are messages
 abbrev pub sent_by : List AppEvent → ℕ
 sent_by events = sent_in (all_happened events)
-
--- whether it is one
-abbrev pub is_sent : AppEvent → Bool
-is_sent (events.Send message) = true
-is_sent event = false

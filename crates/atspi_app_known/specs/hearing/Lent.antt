@@ -1,7 +1,6 @@
 -- Pairs that lie in a message, if they are there, as contracts see them.
-use Rattle.std.specs.Prelude.{ℕ, List, Option, None, Some, Vec, map, chars, if◌then◌else◌}
+use Rattle.std.specs.Prelude.{ℕ, List, Option, None, Some, Vec, map, chars}
 use Rattle.std.specs.declared.alloc.Global.{Global}
-use Rattle.atspi_base.specs.valid_names.Names.{is_bus_name}
 use Rattle.atspi_app_known.specs.declared.hearing.pair_ref.PairRef.{PairRef}
 
 -- a pair that is lent, by the name's bytes and the pattern's characters
@@ -11,14 +10,6 @@ lent_pair r = (r.name.now, chars r.pattern.now)
 abbrev pub lent_pairs : List PairRef → List (List ℕ × List ℕ)
 lent_pairs rs = map lent_pair rs
 
-abbrev pub lent_or_none : Option PairRef → Option (List ℕ × List ℕ)
-lent_or_none None = None
-lent_or_none (Some r) = Some (lent_pair r)
-
 abbrev pub all_lent : Option (Vec PairRef Global) → Option (List (List ℕ × List ℕ))
 all_lent None = None
 all_lent (Some rs) = Some (lent_pairs rs.items)
-
--- two texts are a pair, if the first is a bus name
-abbrev pub pair_by : List ℕ → List ℕ → Option (List ℕ × List ℕ)
-pair_by name pattern = if is_bus_name name then Some (name, pattern) else None

@@ -2,7 +2,8 @@
 
 ghost use Rattle.std.specs.Prelude.{◌≡◌, [], ◌∷◌, ◌++◌, ◌+◌, ◌<◌, ◌↔◌, IsErrOf, MatchOption, OnOk, OnErr};
 ghost use Rattle.atspi_protocol.specs.exporting.Exporter.{numbered, sent_in};
-ghost use Rattle.atspi_app_known.specs.happenings.Happened.{happening_of, is_sent, sent_by};
+ghost use Rattle.atspi_app_known.specs.happenings.Happened.{happening_of, sent_by};
+ghost use Rattle.atspi_app_known.specs.happenings.inner.Happened.{is_sent};
 ghost use Rattle.atspi_app_known.specs.happenings.View.{happened, next_of, out_of};
 
 use crate::happenings::event::AppEvent;

@@ -4,7 +4,7 @@ ghost use Rattle.std.specs.Prelude.{◌≡◌, ◌<◌, ◌^◌, chars, length};
 ghost use Rattle.atspi_base.specs.Text.{HasNoZero};
 ghost use Rattle.atspi_marshal_in_place.specs.Items.{item_data, fields_data};
 ghost use Rattle.atspi_protocol.specs.exporting.Hearing as hearing;
-ghost use Rattle.atspi_app_known.specs.hearing.Lent.{lent_or_none, pair_by};
+ghost use Rattle.atspi_app_known.specs.hearing.inner.Lent.{lent_or_none, pair_by};
 
 use crate::hearing::pair_ref::PairRef;
 use atspi_base::valid_names::is_bus_name;

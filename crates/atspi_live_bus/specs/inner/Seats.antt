@@ -14,9 +14,11 @@ use Rattle.atspi_live_bus.specs.Asked.{Asked, taking, Runs}
 use Rattle.atspi_live_bus.specs.Closes.{AreShut, AreTaken, Attends, Follows, IsShut, Parts}
 use Rattle.atspi_live_bus.specs.Course.{Accepts, AreTellings, Course, Steps, told_all}
 use Rattle.atspi_live_bus.specs.Opened.{open_behind}
-use Rattle.atspi_live_bus.specs.Rounds.{GoesOn, IsHeard, MayGive}
+use Rattle.atspi_live_bus.specs.Rounds.{IsHeard, MayGive}
+use Rattle.atspi_live_bus.specs.inner.Rounds.{GoesOn}
 use Rattle.atspi_live_bus.specs.Service.{IsSpeech}
-use Rattle.atspi_live_bus.specs.Turns.{Converses, Goes, IsSilent, Remains}
+use Rattle.atspi_live_bus.specs.Turns.{Converses}
+use Rattle.atspi_live_bus.specs.inner.Turns.{Goes, IsSilent, Remains}
 use Rattle.atspi_live_bus.specs.declared.link.Link.{Link}
 use lib.Dec.{leb}
 

@@ -1,6 +1,6 @@
 -- The links of the bus are those that the host has open.
 use Rattle.std.specs.Prelude.{◌≡◌, ℕ, List, map}
-use Rattle.atspi_live_host.specs.Calls.{Differ}
+use Rattle.atspi_live_host.specs.inner.Calls.{Differ}
 use Rattle.atspi_live_bus.specs.declared.link.Link.{Link}
 
 abbrev pub numbers : List Link → List ℕ

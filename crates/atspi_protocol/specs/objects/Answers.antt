@@ -18,7 +18,8 @@ use Rattle.atspi_protocol.specs.declared.members.member.ObjectMember.TheVariants
 use Rattle.atspi_protocol.specs.declared.members.member.ObjectMember.TheVariants.{GetAttributes, GetApplication}
 use Rattle.atspi_protocol.specs.declared.members.member.ObjectMember.TheVariants.{GetInterfaces, GetLocale, GetItems}
 use Rattle.atspi_protocol.specs.declared.members.member.ObjectMember.TheVariants.{GetText, SetCaretOffset}
-use Rattle.atspi_protocol.specs.declared.members.member.ObjectMember.TheVariants.{GetCharacterAtOffset, GetStringAtOffset}
+use Rattle.atspi_protocol.specs.declared.members.member.ObjectMember.TheVariants.{GetCharacterAtOffset}
+use Rattle.atspi_protocol.specs.declared.members.member.ObjectMember.TheVariants.{GetStringAtOffset}
 use Rattle.atspi_protocol.specs.declared.members.member.ObjectMember.TheVariants.{GetNSelections}
 use Rattle.atspi_protocol.specs.declared.members.member.ObjectMember.TheVariants.{GetSelection, AddSelection}
 use Rattle.atspi_protocol.specs.declared.members.member.ObjectMember.TheVariants.{RemoveSelection, SetSelection}

@@ -15,7 +15,8 @@ use Rattle.atspi_protocol.specs.registering.Steps.{answer_to}
 use Rattle.atspi_registry.specs.declared.calls.ask.Ask.{Ask}
 use Rattle.atspi_registry.specs.declared.calls.ask.Ask.TheVariants.{Name, ChildCount, AllProperties, NoProperties}
 use Rattle.atspi_registry.specs.calls.inner.Arguments.{reference_of}
-use Rattle.atspi_registry.specs.calls.Ask.{ask_answer, IsProperty, AreProperties, refusal_of}
+use Rattle.atspi_registry.specs.calls.Ask.{ask_answer}
+use Rattle.atspi_registry.specs.calls.inner.Ask.{IsProperty, AreProperties, refusal_of}
 
 -- a reference, or an empty one
 pub reference_is : (ds : List Data) → reference_in ds ≡ unwrap_or (reference_of ds) ([], [])

@@ -1,5 +1,5 @@
 -- What is asked of the registry, as parts of the message's bytes, and what it does then.
-use Rattle.std.specs.Prelude.{◌≡◌, ◌<◌, ◌^◌, length, ℕ, false, List, [], ◌∷◌, chars, codes, IsOkAnd, Result, Ok, Err}
+use Rattle.std.specs.Prelude.{◌<◌, ◌^◌, length, ℕ, List, ◌∷◌, chars, codes, Result, Ok, Err, []}
 use Rattle.atspi_base.specs.Text.{HasNoZero}
 use Rattle.atspi_base.specs.valid_names.Names.{IsPath}
 use Rattle.atspi_types.specs.Kinds.{u32, text, variant}
@@ -7,8 +7,6 @@ use Rattle.atspi_types.specs.Data.{number_data, text_data, dictionary_data, no_e
 use Rattle.atspi_protocol.specs.ends.Places.{references}
 use Rattle.atspi_protocol.specs.ends.Messages.{returns, fails, error_word}
 use Rattle.atspi_protocol.specs.declared.ends.error.CallError.{CallError}
-use Rattle.atspi_protocol.specs.declared.ends.error.CallError.TheVariants.{PropertyReadOnly}
-use Rattle.atspi_protocol.specs.members.Table.{PropertyLine}
 use Rattle.atspi_protocol.specs.declared.members.property.ObjectProperty.TheVariants as properties
 use Rattle.atspi_protocol.specs.registering.RegistryState.{RegistryState}
 use Rattle.atspi_protocol.specs.registering.Answers.{Answer, only, registers, deregisters, pairs_data, if_own, adopts}
@@ -47,22 +45,3 @@ IsLent (Register pattern) = HasNoZero pattern.now × (length pattern.now < 2 ^ 3
 IsLent (Deregister pattern) = HasNoZero pattern.now × (length pattern.now < 2 ^ 32)
 IsLent (Embed name path) = IsPath path.now
 IsLent _ = Unit {0}
-
--- a property that is asked for is one of the root's, or the error tells that it is none
-abbrev pub IsProperty : Result Ask CallError → Result PropertyLine (List ℕ) → Type 0
-IsProperty (Ok Name) found = IsOkAnd found (λ l. (l.property ≡ properties.Name) × (l.is_settable ≡ false))
-IsProperty (Ok ChildCount) found = IsOkAnd found (λ l. (l.property ≡ properties.ChildCount) × (l.is_settable ≡ false))
-IsProperty (Ok _) found = ⊥
-IsProperty (Err error) found = found ≡ Err (error_word error)
-
--- all properties of an interface are the root's, or none
-abbrev pub AreProperties : Result Ask CallError → Result (List PropertyLine) (List ℕ) → Type 0
-AreProperties (Ok AllProperties) found = found ≡ Ok registry_root.properties
-AreProperties (Ok NoProperties) found = found ≡ Ok []
-AreProperties (Ok _) found = ⊥
-AreProperties (Err error) found = found ≡ Err (error_word error)
-
--- why it cannot be set
-abbrev pub refusal_of : Result Ask CallError → CallError
-refusal_of (Ok ask) = PropertyReadOnly
-refusal_of (Err error) = error

@@ -8,7 +8,8 @@ ghost use Rattle.atspi_protocol.specs.registering.Steps.{answer_to};
 ghost use Rattle.atspi_protocol.specs.declared.members.member.ObjectMember.TheVariants.{GetStringAtOffset};
 ghost use Rattle.atspi_protocol.specs.members.Asked as asked;
 ghost use Rattle.atspi_registry.specs.calls.inner.Object.{object_of};
-ghost use Rattle.atspi_registry.specs.calls.Ask.{ask_answer, IsLent, IsProperty, AreProperties, refusal_of};
+ghost use Rattle.atspi_registry.specs.calls.Ask.{ask_answer, IsLent};
+ghost use Rattle.atspi_registry.specs.calls.inner.Ask.{IsProperty, AreProperties, refusal_of};
 
 use crate::calls::arguments::{first_reference, first_signed, first_text, second_text};
 use crate::calls::ask::Ask;

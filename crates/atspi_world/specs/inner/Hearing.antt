@@ -8,7 +8,7 @@ use Rattle.atspi_world_links.specs.declared.post.Post.{Post}
 use Rattle.atspi_trace.specs.World.{End, World}
 use Rattle.atspi_trace.specs.Ends.{end_at}
 use Rattle.atspi_world_moves.specs.Carried.{IsCarried}
-use Rattle.atspi_world_moves.specs.Downs.{messages_of}
+use Rattle.atspi_world_moves.specs.inner.Downs.{messages_of}
 use Rattle.atspi_world_moves.specs.Linked.{IsLinked}
 
 -- it took these messages

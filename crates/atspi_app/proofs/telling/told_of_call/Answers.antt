@@ -1,7 +1,7 @@
 use Rattle.std.proofs.Common.{sym, subst}
 use Rattle.atspi_message_in_place.specs.View.{envelope_at}
 use Rattle.atspi_app.specs.called.Called.{reply_of}
-use Rattle.atspi_app.specs.Seen.{AreUnnumbered}
+use Rattle.atspi_app.specs.inner.Seen.{AreUnnumbered}
 use Rattle.atspi_app.proofs.OfCalls.{back_unnumbered, reply_behind}
 use Rattle.atspi_app.proofs.telling.told_of_call.Goals as goal
 

@@ -1,5 +1,5 @@
 use Rattle.std.proofs.Common.{sym, subst, ◌∙◌}
-use Rattle.atspi_app_calls.specs.Interface.{NamesInterface}
+use Rattle.atspi_app_calls.specs.inner.Interface.{NamesInterface}
 use Rattle.atspi_app_calls.proofs.PropertyLemmas.{not_named, not_had, had}
 use Rattle.atspi_app_calls.proofs.asking.interface_of.Goals as goal
 

@@ -4,7 +4,7 @@ use Rattle.atspi_protocol.specs.members.Arguments.{text_at}
 use Rattle.atspi_protocol.specs.members.Asked.{pieces_asked, property_of}
 use Rattle.atspi_protocol.specs.members.Granularity.{grain_of}
 use Rattle.atspi_app_calls.specs.Object.{object_of}
-use Rattle.atspi_app_calls.specs.Ask.{IsFound}
+use Rattle.atspi_app_calls.specs.inner.Ask.{IsFound}
 use Rattle.atspi_app_calls.proofs.asking.of_member.Goals as goal
 
 pub returns-in-GetStringAtOffset : goal.returns-in-GetStringAtOffset

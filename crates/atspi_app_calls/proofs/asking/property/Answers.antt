@@ -1,7 +1,7 @@
 use Rattle.std.proofs.Common.{sym, subst, ◌∙◌, chars}
 use Rattle.atspi_protocol.specs.members.Asked.{properties_of}
 use Rattle.atspi_app_calls.specs.Object.{object_of}
-use Rattle.atspi_app_calls.specs.Ask.{AreAll}
+use Rattle.atspi_app_calls.specs.inner.Ask.{AreAll}
 use Rattle.atspi_app_calls.proofs.PropertyLemmas.{some_property, no_property}
 use Rattle.atspi_app_calls.proofs.asking.property.Goals as goal
 

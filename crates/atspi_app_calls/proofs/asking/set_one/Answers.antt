@@ -1,7 +1,7 @@
 use Rattle.std.proofs.Common.{subst}
 use Rattle.std.specs.Prelude.{IsOkAnd}
 use Rattle.atspi_app_calls.specs.reading.Arguments.{IsSigned}
-use Rattle.atspi_app_calls.specs.Ask.{IsLine}
+use Rattle.atspi_app_calls.specs.inner.Ask.{IsLine}
 use Rattle.atspi_app_calls.proofs.PropertyLemmas.{set_other}
 use Rattle.atspi_app_calls.proofs.asking.set_one.Goals as goal
 

@@ -1,5 +1,5 @@
 use Rattle.std.proofs.Common.{subst}
-use Rattle.atspi_app_calls.specs.Ask.{IsFound}
+use Rattle.atspi_app_calls.specs.inner.Ask.{IsFound}
 use Rattle.atspi_app_calls.proofs.asking.setting.Goals as goal
 
 pub returns-in-Ok : goal.returns-in-Ok

@@ -1,5 +1,5 @@
 use Rattle.std.proofs.Common.{sym, subst, ◌∙◌, true≢false}
-use Rattle.atspi_app_calls.specs.Interface.{NamesInterface}
+use Rattle.atspi_app_calls.specs.inner.Interface.{NamesInterface}
 use Rattle.atspi_app_calls.proofs.Names.{no_interface}
 use Rattle.atspi_app_calls.proofs.Members.{one_is}
 use Rattle.atspi_app_calls.proofs.member.in_one.Goals as goal

@@ -9,7 +9,7 @@ use Rattle.atspi_tree.specs.Seats.{seats_in}
 use Rattle.atspi_tree_model.specs.Row.{Each}
 use Rattle.atspi_protocol.specs.objects.Values.{item_data}
 use Rattle.atspi_tree.specs.declared.seats.Seat.{Seat}
-use Rattle.atspi_app_items.specs.Seated.{seat_item, seats_items}
+use Rattle.atspi_app_items.specs.inner.Seated.{seat_item, seats_items}
 use Rattle.atspi_app_items.proofs.Walked.{IsPlace, all_places, told_more}
 use Rattle.atspi_app_items.proofs.all.item_values.Goals as goal
 

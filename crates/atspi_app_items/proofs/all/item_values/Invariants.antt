@@ -3,7 +3,7 @@ use Rattle.atspi_types.specs.DataView.{all_data}
 use Rattle.atspi_tree_model.specs.Row.{Each}
 use Rattle.atspi_protocol.specs.objects.Values.{item_data}
 use Rattle.atspi_tree.specs.Seats.{seats_in}
-use Rattle.atspi_app_items.specs.Seated.{seats_items}
+use Rattle.atspi_app_items.specs.inner.Seated.{seats_items}
 use Rattle.atspi_app_items.proofs.Walked.{IsPlace}
 use Rattle.atspi_app_items.proofs.all.item_values.Given as goal
 

@@ -3,7 +3,7 @@ use Rattle.std.proofs.lemmas.List.{length-take, take-take, take-append-drop}
 use Rattle.atspi_live_host.specs.declared.call.Did.TheVariants.{Done, NotYet, Failed}
 use Rattle.atspi_live_conversation.proofs.MovedLemmas.{write_gives}
 use Rattle.atspi_live_conversation.proofs.RoundLemmas.{makes_none, none_wait, put_made, puts_any}
-use Rattle.atspi_live_conversation.specs.Talking.{PutsIfAny}
+use Rattle.atspi_live_conversation.specs.inner.Talking.{PutsIfAny}
 use Rattle.atspi_live_conversation.proofs.rounds.give.Goals as goal
 
 -- a front of the first bytes is one of all

@@ -22,8 +22,9 @@ pub fn quota()
         ≡ (1, Why.Quota 1 2) ∷ [] }
 {}
 
-/// A message counts with its length, also where that is more than the wire allows: one of 134,217,728 bytes goes where the
-/// quota has room for it, and one byte more closes the receiver. Of its length 4,294,967,295 bytes are told at most.
+/// A message counts with its length, also where that is more than the wire allows: one of 134,217,728 bytes goes where
+/// the quota has room for it, and one byte more closes the receiver. Of its length 4,294,967,295 bytes are told at
+/// most.
 pub fn long_messages()
     ensures fits { (bytes : List ℕ) → length bytes ≡ 134217728
         → queue_of (queued 134217729 one_waits 1 bytes).queues 1 ≡ 7 ∷ bytes }

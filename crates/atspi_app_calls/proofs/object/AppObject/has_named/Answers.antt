@@ -1,7 +1,7 @@
 use Rattle.std.proofs.Common.{sym, ap, subst, ◌∙◌}
 use Rattle.atspi_message_in_place.specs.View.{bytes_of}
 use Rattle.atspi_protocol.specs.members.Asked.{has_interface}
-use Rattle.atspi_app_calls.specs.Interface.{NamesInterface}
+use Rattle.atspi_app_calls.specs.inner.Interface.{NamesInterface}
 use Rattle.atspi_app_calls.specs.Object.{object_of}
 use Rattle.atspi_app_calls.proofs.Names.{no_interface}
 use Rattle.atspi_app_calls.proofs.object.AppObject.has_named.Goals as goal

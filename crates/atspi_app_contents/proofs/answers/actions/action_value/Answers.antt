@@ -3,7 +3,7 @@ use Rattle.std.proofs.lemmas.Result.{IfOk-weaker}
 use Rattle.atspi_types.specs.DataView.{data_of}
 use Rattle.atspi_marshal_in_place.specs.Items.{fields_data}
 use Rattle.atspi_protocol.specs.declared.members.member.ObjectMember.{ObjectMember}
-use Rattle.atspi_app_contents.specs.answers.Told.{TellsActions}
+use Rattle.atspi_app_contents.specs.answers.inner.Told.{TellsActions}
 use Rattle.atspi_app_contents.proofs.answers.actions.action_value.Goals as goal
 
 pub returns-in-GetDescription : goal.returns-in-GetDescription

@@ -2,7 +2,7 @@ use Rattle.std.proofs.Common.{sym, ◌∙◌, subst}
 use Rattle.std.proofs.lemmas.Result.{IfOk-weaker}
 use Rattle.atspi_marshal_in_place.specs.Items.{fields_data}
 use Rattle.atspi_protocol.specs.declared.members.member.ObjectMember.{ObjectMember}
-use Rattle.atspi_app_contents.specs.changes.Changing.{ChangesActions}
+use Rattle.atspi_app_contents.specs.changes.inner.Changing.{ChangesActions}
 use Rattle.atspi_app_contents.proofs.OfChanges.Known.{of_text, of_actions, of_children, last_acts}
 use Rattle.atspi_app_contents.proofs.changes.change.change_of.Goals as goal
 

@@ -1,5 +1,5 @@
 use Rattle.std.proofs.Common.{rules, ◌≡◌, ℕ, cond, sym, ap, ◌∙◌, arith}
-use Rattle.atspi_app_known.specs.happenings.Happened.{is_sent}
+use Rattle.atspi_app_known.specs.happenings.inner.Happened.{is_sent}
 use Rattle.atspi_app_known.proofs.OfHappenings.Waiting.{sent_by-take}
 use Rattle.atspi_app_known.proofs.happenings.queue.count_messages.Goals as goal
 use Rattle.atspi_app_known.proofs.happenings.queue.count_messages.Goals.{then-is_message, else-is_message}

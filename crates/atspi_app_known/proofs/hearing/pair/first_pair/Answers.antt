@@ -4,7 +4,7 @@ use Rattle.atspi_types.specs.Data.{type_of}
 use Rattle.atspi_marshal.specs.Reading.{input_of}
 use Rattle.atspi_marshal_in_place.specs.Items.{item_data, item_kind, fields_data}
 use Rattle.atspi_message_in_place.proofs.ReadTypes.{item_type}
-use Rattle.atspi_app_known.specs.hearing.Lent.{lent_or_none}
+use Rattle.atspi_app_known.specs.hearing.inner.Lent.{lent_or_none}
 use Rattle.atspi_app_known.proofs.OfHearing.Values.{wrong_name, wrong_pattern}
 use Rattle.atspi_app_known.proofs.hearing.pair.first_pair.Goals as goal
 

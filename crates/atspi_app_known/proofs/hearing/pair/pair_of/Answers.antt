@@ -6,7 +6,7 @@ use Rattle.atspi_marshal.specs.Reading.{input_of}
 use Rattle.atspi_marshal_in_place.specs.codes.Codes.{is_structure}
 use Rattle.atspi_marshal_in_place.specs.Items.{item_data, item_kind, fields_data}
 use Rattle.atspi_message_in_place.proofs.ReadTypes.{item_type}
-use Rattle.atspi_app_known.specs.hearing.Lent.{lent_or_none}
+use Rattle.atspi_app_known.specs.hearing.inner.Lent.{lent_or_none}
 use Rattle.atspi_app_known.proofs.OfHearing.Values.{no_structure, field_wrong, second_wrong}
 use Rattle.atspi_app_known.proofs.hearing.pair.pair_of.Goals as goal
 

@@ -1,8 +1,8 @@
 use Rattle.std.proofs.Common.{◌≡◌}
-use Rattle.atspi_live_bus.specs.Rounds.{Moves}
+use Rattle.atspi_live_bus.specs.inner.Rounds.{Moves}
 use Rattle.atspi_live_bus.specs.inner.Seats.{TakesSome, held}
 use Rattle.atspi_live_bus.specs.inner.Serving.{Serves}
-use Rattle.atspi_live_bus.specs.Turns.{Goes}
+use Rattle.atspi_live_bus.specs.inner.Turns.{Goes}
 use Rattle.atspi_live_bus.proofs.hall.Hall.attend.Given as goal
 
 abbrev pub invariant-messages : goal.invariant-messages

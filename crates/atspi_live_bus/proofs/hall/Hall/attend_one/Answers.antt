@@ -1,5 +1,5 @@
 use Rattle.std.proofs.Common.{refl, slice_set, subst, sym, arith}
-use Rattle.atspi_live_host.specs.Calls.{Differ}
+use Rattle.atspi_live_host.specs.inner.Calls.{Differ}
 use Rattle.atspi_live_bus.proofs.Hearing.{bad_cut, bad_taken, none_takes, told_cut, took_one, waits}
 use Rattle.atspi_live_bus.proofs.Serving.{turned}
 use Rattle.atspi_live_bus.proofs.Shutting.{held_set}

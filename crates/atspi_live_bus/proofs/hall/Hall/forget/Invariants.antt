@@ -1,6 +1,6 @@
 use Rattle.std.proofs.Common.{◌≡◌, length}
 use Rattle.atspi_bus.specs.View.{bus_of, given_of}
-use Rattle.atspi_live_bus.specs.Turns.{IsTold}
+use Rattle.atspi_live_bus.specs.inner.Turns.{IsTold}
 use Rattle.atspi_live_bus.proofs.hall.Hall.forget.Given as goal
 
 abbrev pub invariant-messages : goal.invariant-messages

@@ -1,5 +1,5 @@
 use Rattle.std.proofs.Common.{rules, ◌≡◌, true, false, slice_set, subst, sym}
-use Rattle.atspi_live_host.specs.Calls.{Differ}
+use Rattle.atspi_live_host.specs.inner.Calls.{Differ}
 use Rattle.atspi_live_bus.proofs.Going.{want_free}
 use Rattle.atspi_live_bus.proofs.Hearing.{gave, gave_either, gave_none, gave_on, not_there}
 use Rattle.atspi_live_bus.proofs.Serving.{link_open, turned}

@@ -1,5 +1,5 @@
 use Rattle.std.proofs.Common.{◌≡◌, ℕ, ◌+◌, refl, sym, subst, ◌∙◌, arith}
-use Rattle.atspi_live_bus.specs.Rounds.{Moves}
+use Rattle.atspi_live_bus.specs.inner.Rounds.{Moves}
 use Rattle.atspi_live_bus.specs.inner.Seats.{GoesOpen, conn_at}
 use Rattle.atspi_live_bus.proofs.Passing.{Passes, all_passed, cut_passed, none_left, passes_none, passes_on}
 use Rattle.atspi_live_bus.proofs.Shutting.{conn_is}

@@ -1,9 +1,9 @@
 use Rattle.std.proofs.Common.{◌≡◌, ◌≤◌, [], length}
 use Rattle.atspi_bus.specs.View.{bus_of}
-use Rattle.atspi_live_bus.specs.Rounds.{Moves}
+use Rattle.atspi_live_bus.specs.inner.Rounds.{Moves}
 use Rattle.atspi_live_bus.specs.inner.Seats.{Settling, held}
 use Rattle.atspi_live_bus.specs.inner.Serving.{Serves}
-use Rattle.atspi_live_bus.specs.Turns.{Goes}
+use Rattle.atspi_live_bus.specs.inner.Turns.{Goes}
 use Rattle.atspi_live_bus.proofs.hall.Hall.settle.Given as goal
 
 abbrev pub invariant-closings : goal.invariant-closings

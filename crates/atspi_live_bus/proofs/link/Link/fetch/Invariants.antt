@@ -1,7 +1,7 @@
 use Rattle.std.proofs.Common.{◌≡◌, ◌-◌, ◌<◌, [], length}
 use Rattle.atspi_auth.specs.declared.stage.Stage.TheVariants.{Over}
 use Rattle.atspi_bus.specs.View.{bus_of, given_of}
-use Rattle.atspi_live_bus.specs.Turns.{Fetches}
+use Rattle.atspi_live_bus.specs.inner.Turns.{Fetches}
 use Rattle.atspi_live_bus.proofs.link.Link.fetch.Given as goal
 
 abbrev pub invariant-pieces : goal.invariant-pieces

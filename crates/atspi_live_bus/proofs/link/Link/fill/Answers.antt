@@ -1,6 +1,6 @@
 use Rattle.std.proofs.Common.{ℕ, subst}
 use Rattle.atspi_bus.specs.View.{bus_of}
-use Rattle.atspi_live_bus.specs.Turns.{Fetches}
+use Rattle.atspi_live_bus.specs.inner.Turns.{Fetches}
 use Rattle.atspi_live_bus.proofs.Ending.{on_ok}
 use Rattle.atspi_live_bus.proofs.Fetching.{fetches_behind, fetches_none}
 use Rattle.atspi_live_bus.proofs.link.Link.fill.Goals as goal

@@ -2,9 +2,10 @@ use Rattle.std.proofs.Common.{rules, ◌≡◌, ◌<◌, ◌≤◌, ℕ, true, f
 use Rattle.std.proofs.lemmas.List.{length-append, take-append-drop}
 use Rattle.atspi_live_host.specs.declared.call.Did.TheVariants.{Done, NotYet, Failed}
 use Rattle.atspi_bus.specs.View.{bus_of}
-use Rattle.atspi_live_bus.specs.Rounds.{Does}
+use Rattle.atspi_live_bus.specs.inner.Rounds.{Does}
 use Rattle.atspi_live_bus.specs.inner.Seats.{HasSent}
-use Rattle.atspi_live_bus.specs.Turns.{Carries, Converses}
+use Rattle.atspi_live_bus.specs.Turns.{Converses}
+use Rattle.atspi_live_bus.specs.inner.Turns.{Carries}
 use Rattle.atspi_live_bus.proofs.Calling.{carries_write}
 use Rattle.atspi_live_bus.proofs.Conversing.{given_on}
 use Rattle.atspi_live_bus.proofs.Giving.{sent_lost, sent_some}

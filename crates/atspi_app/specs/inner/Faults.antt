@@ -1,4 +1,4 @@
--- Why an edit has no steps, as a fault of an application.
+-- Words that only the private contracts and proofs beside `Faults` use.
 use Rattle.atspi_tree_edits.specs.declared.fault.EditRefused.{EditRefused}
 use Rattle.atspi_tree_edits.specs.declared.fault.EditRefused.TheVariants as edits
 use Rattle.atspi_app_known.specs.declared.application.fault.AppFault.{AppFault}

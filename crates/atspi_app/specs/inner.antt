@@ -1,0 +1,3 @@
+-- Words that only private contracts and proofs use: nothing here has to be believed.
+pub mod Faults
+pub mod Seen

@@ -1,0 +1,5 @@
+-- Words that only private contracts and proofs use: nothing here has to be believed.
+pub mod Doing
+pub mod Hearing
+pub mod Spending
+pub mod Taken
