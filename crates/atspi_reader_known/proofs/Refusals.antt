@@ -1,5 +1,5 @@
 -- What the sets of refused parts keep.
-use Rattle.std.proofs.Common.{◌≡◌, ℕ, suc, ◌+◌, ◌≤◌, Bool, true, false, cond, not, List, [], ◌∷◌, ◌++◌, length, Option, Some, None, refl, sym, ap, subst, ◌∙◌, arith}
+use Rattle.std.proofs.Common.{◌≡◌, ℕ, ◌≤◌, ◌<◌, Bool, true, false, cond, not, List, [], ◌∷◌, ◌++◌, filter, Option, Some, None, refl, sym, ap, subst, ◌∙◌, arith}
 use Rattle.std.specs.Prelude.{◌&&◌, ◌||◌, bytes_eq, nat_le, is_some, IfSome, Result, Ok, Err, OnErr}
 use Rattle.std.specs.BTreeSet.{contains_text}
 use Rattle.std.proofs.lemmas.Bool.Decides.{nat_tests}
@@ -9,7 +9,8 @@ use Rattle.atspi_protocol.specs.declared.news.part.PartName.{PartName}
 use Rattle.atspi_protocol.specs.declared.news.part.PartName.TheVariants.{Text, Caret, Columns}
 use Rattle.atspi_protocol.specs.following.Wishes.{is_refused, of_others, same_part}
 use Rattle.atspi_reader_known.specs.declared.refused.Parts.{Parts}
-use Rattle.atspi_reader_known.specs.Refusals.{AreSame, AreWithin, Clears, Puts, counting, counts, has_part, or_place}
+use Rattle.atspi_reader_known.specs.Refusals.{AreBelow, AreSame, AreWithin, Clears, Puts, counting, counts, has_part, or_place}
+use Rattle.atspi_reader_known.specs.declared.refused.Entry.{Entry}
 use Rattle.atspi_reader_known.proofs.Anew.{none_of, others_same}
 
 at_same : (b t s : Bool) → s ≡ cond b true t → s ≡ (t || (b && true))
@@ -133,33 +134,71 @@ module _ (path : List ℕ) (place : ℕ) where
 pub within_none : (f : List ℕ → Option ℕ) (end : ℕ) → ((q : List ℕ) → f q ≡ None) → AreWithin f end
 within_none f end none = λ q. subst (λ (o : Option ℕ). IfSome o (λ at. at ≤ end)) (sym (none q)) tt
 
-later : (at place : ℕ) → suc at ≤ place → nat_le place at ≡ false
+later : (at place : ℕ) → at < place → nat_le place at ≡ false
 later at place l = grind (arith, nat_tests)
 
 here : (at place : ℕ) → at ≤ place → nat_le at place ≡ true
 here at place l = grind (arith, nat_tests)
 
+abbrev Part : Type 0
+Part = List ℕ × PartName
+
+abbrev part_of : Entry → Part
+part_of e = (e.path, e.part)
+
+-- one more number may be given, and one more entry stands behind
+pub below_more : (es : List Entry) (n m : ℕ) → n ≤ m → AreBelow es n → AreBelow es m
+below_more [] n m l b = tt
+below_more (e ∷ es) n m l b = (omega (arith, l, b.0), below_more es n m l b.1)
+
+pub below_pushed : (es : List Entry) (e : Entry) (n m : ℕ) → n ≤ m → e.number < m → AreBelow es n → AreBelow (es ++ e ∷ []) m
+below_pushed [] e n m l h b = (h, tt)
+below_pushed (x ∷ es) e n m l h b = (omega (arith, l, b.0), below_pushed es e n m l h b.1)
+
+-- those that count are kept
+abbrev keeps : (List ℕ → Option ℕ) → Entry → Bool
+keeps f e = counts (f e.path) e.number
+
+pub counting_kept : (f : List ℕ → Option ℕ) (es : List Entry) → counting f (filter (keeps f) es) ≡ counting f es
+counting_kept f [] = refl
+counting_kept f (e ∷ es) = by (keeps f e) refl (counting_kept f es)
+  where
+    by : (b : Bool) → keeps f e ≡ b → counting f (filter (keeps f) es) ≡ counting f es
+        → counting f (cond b (e ∷ filter (keeps f) es) (filter (keeps f) es)) ≡ cond b (part_of e ∷ counting f es) (counting f es)
+    by true k rest =
+        ap (λ (c : Bool). cond c (part_of e ∷ counting f (filter (keeps f) es)) (counting f (filter (keeps f) es))) k
+        ∙ ap (λ (l : List Part). part_of e ∷ l) rest
+    by false k rest = rest
+
+pub below_kept : (f : List ℕ → Option ℕ) (es : List Entry) (n : ℕ) → AreBelow es n → AreBelow (filter (keeps f) es) n
+below_kept f [] n b = tt
+below_kept f (e ∷ es) n b = by (keeps f e) (below_kept f es n b.1)
+  where
+    by : (k : Bool) → AreBelow (filter (keeps f) es) n → AreBelow (cond k (e ∷ filter (keeps f) es) (filter (keeps f) es)) n
+    by true rest = (b.0, rest)
+    by false rest = rest
+
 module _ (f g : List ℕ → Option ℕ) where
-  pub counting_same : ((q : List ℕ) → g q ≡ f q) → (at : ℕ) (parts : List (List ℕ × PartName)) → counting g at parts ≡ counting f at parts
-  counting_same h at [] = refl
-  counting_same h at (r ∷ rs) =
-      ap (λ (o : Option ℕ). cond (counts o at) (r ∷ counting g (suc at) rs) (counting g (suc at) rs)) (h r.0)
-      ∙ ap (λ (l : List (List ℕ × PartName)). cond (counts (f r.0) at) (r ∷ l) l) (counting_same h (suc at) rs)
+  pub counting_same : ((q : List ℕ) → g q ≡ f q) → (es : List Entry) → counting g es ≡ counting f es
+  counting_same h [] = refl
+  counting_same h (e ∷ es) =
+      ap (λ (o : Option ℕ). cond (counts o e.number) (part_of e ∷ counting g es) (counting g es)) (h e.path)
+      ∙ ap (λ (l : List Part). cond (counts (f e.path) e.number) (part_of e ∷ l) l) (counting_same h es)
 
   pub within_same : (end : ℕ) → ((q : List ℕ) → g q ≡ f q) → AreWithin f end → AreWithin g end
   within_same end h w = λ q. subst (λ (o : Option ℕ). IfSome o (λ at. at ≤ end)) (sym (h q)) (w q)
 
-  -- a path without a place gets one
+  -- a path without a number gets one
   module _ (path : List ℕ) (place : ℕ) (h : (q : List ℕ) → g q ≡ cond (bytes_eq path q) (or_place (f q) place) (f q)) where
-    pub counting_noted : (at : ℕ) (parts : List (List ℕ × PartName)) → at + length parts ≤ place → counting g at parts ≡ counting f at parts
-    counting_noted at [] l = refl
-    counting_noted at (r ∷ rs) l =
-        ap (λ (o : Option ℕ). cond (counts o at) (r ∷ counting g (suc at) rs) (counting g (suc at) rs)) (h r.0)
-        ∙ ap (λ (b : Bool). cond b (r ∷ counting g (suc at) rs) (counting g (suc at) rs)) (by (bytes_eq path r.0) (f r.0) (omega (arith, l)))
-        ∙ ap (λ (l : List (List ℕ × PartName)). cond (counts (f r.0) at) (r ∷ l) l) (counting_noted (suc at) rs (omega (arith, l)))
+    pub counting_noted : (es : List Entry) → AreBelow es place → counting g es ≡ counting f es
+    counting_noted [] l = refl
+    counting_noted (e ∷ es) l =
+        ap (λ (o : Option ℕ). cond (counts o e.number) (part_of e ∷ counting g es) (counting g es)) (h e.path)
+        ∙ ap (λ (b : Bool). cond b (part_of e ∷ counting g es) (counting g es)) (by (bytes_eq path e.path) (f e.path) l.0)
+        ∙ ap (λ (m : List Part). cond (counts (f e.path) e.number) (part_of e ∷ m) m) (counting_noted es l.1)
       where
-        by : (b : Bool) (o : Option ℕ) → suc at ≤ place → counts (cond b (or_place o place) o) at ≡ counts o at
-        by true None l = later at place l
+        by : (b : Bool) (o : Option ℕ) → e.number < place → counts (cond b (or_place o place) o) e.number ≡ counts o e.number
+        by true None l = later e.number place l
         by true (Some since) l = refl
         by false o l = refl
 
@@ -181,47 +220,44 @@ module _ (f g : List ℕ → Option ℕ) where
         by None k = here place place (omega arith)
         by (Some at) k = here at place k
 
-    counting_last : (part : PartName) (at : ℕ) (parts : List (List ℕ × PartName)) → at + length parts ≡ place → counts (g path) place ≡ true
-        → counting g at (parts ++ (path, part) ∷ []) ≡ counting g at parts ++ (path, part) ∷ []
-    counting_last part at [] e c =
-        let there : at ≡ place = omega (arith, e) in
-        ap (λ (n : ℕ). cond (counts (g path) n) ((path, part) ∷ []) []) there ∙ ap (λ (b : Bool). cond b ((path, part) ∷ []) []) c
-    counting_last part at (r ∷ rs) e c = by (counts (g r.0) at) (counting_last part (suc at) rs (omega (arith, e)) c)
+    counting_last : (e : Entry) (es : List Entry) → keeps g e ≡ true → counting g (es ++ e ∷ []) ≡ counting g es ++ part_of e ∷ []
+    counting_last e [] c = ap (λ (b : Bool). cond b (part_of e ∷ []) []) c
+    counting_last e (r ∷ rs) c = by (keeps g r) (counting_last e rs c)
       where
-        by : (b : Bool) → counting g (suc at) (rs ++ (path, part) ∷ []) ≡ counting g (suc at) rs ++ (path, part) ∷ []
-            → cond b (r ∷ counting g (suc at) (rs ++ (path, part) ∷ [])) (counting g (suc at) (rs ++ (path, part) ∷ []))
-            ≡ cond b (r ∷ counting g (suc at) rs) (counting g (suc at) rs) ++ (path, part) ∷ []
-        by true same = ap (λ (l : List (List ℕ × PartName)). r ∷ l) same
+        by : (b : Bool) → counting g (rs ++ e ∷ []) ≡ counting g rs ++ part_of e ∷ []
+            → cond b (part_of r ∷ counting g (rs ++ e ∷ [])) (counting g (rs ++ e ∷ []))
+            ≡ cond b (part_of r ∷ counting g rs) (counting g rs) ++ part_of e ∷ []
+        by true same = ap (λ (l : List Part). part_of r ∷ l) same
         by false same = same
 
-    pub counting_pushed : (part : PartName) (parts : List (List ℕ × PartName)) → length parts ≡ place → AreWithin f place
-        → counting g 0 (parts ++ (path, part) ∷ []) ≡ counting f 0 parts ++ (path, part) ∷ []
-    counting_pushed part parts e w =
-        counting_last part 0 parts (omega (arith, e)) (counts_noted w)
-        ∙ ap (λ (l : List (List ℕ × PartName)). l ++ (path, part) ∷ []) (counting_noted 0 parts (omega (arith, e)))
+    pub counting_pushed : (e : Entry) (es : List Entry) → e.path ≡ path → e.number ≡ place → AreBelow es place → AreWithin f place
+        → counting g (es ++ e ∷ []) ≡ counting f es ++ part_of e ∷ []
+    counting_pushed e es p n b w =
+        counting_last e es (ap (λ (q : List ℕ). counts (g q) e.number) p ∙ ap (counts (g path)) n ∙ counts_noted w)
+        ∙ ap (λ (l : List Part). l ++ part_of e ∷ []) (counting_noted es b)
 
-  -- a path loses its place
+  -- a path loses its number
   module _ (path : List ℕ) (h : (q : List ℕ) → g q ≡ cond (bytes_eq path q) None (f q)) where
     none_counts : (b : Bool) (o : Option ℕ) (at : ℕ) → counts (cond b None o) at ≡ cond b false (counts o at)
     none_counts true o at = refl
     none_counts false o at = refl
 
-    pub counting_gone : (at : ℕ) (parts : List (List ℕ × PartName)) → counting g at parts ≡ of_others path (counting f at parts)
-    counting_gone at [] = refl
-    counting_gone at (r ∷ rs) =
-        ap (λ (o : Option ℕ). cond (counts o at) (r ∷ counting g (suc at) rs) (counting g (suc at) rs)) (h r.0 ∙ ap (λ (b : Bool). cond b None (f r.0)) (bytes_turned path r.0))
-        ∙ ap (λ (b : Bool). cond b (r ∷ counting g (suc at) rs) (counting g (suc at) rs)) (none_counts (bytes_eq r.0 path) (f r.0) at)
-        ∙ by (bytes_eq r.0 path) (counts (f r.0) at) refl (counting_gone (suc at) rs)
+    pub counting_gone : (es : List Entry) → counting g es ≡ of_others path (counting f es)
+    counting_gone [] = refl
+    counting_gone (e ∷ es) =
+        ap (λ (o : Option ℕ). cond (counts o e.number) (part_of e ∷ counting g es) (counting g es)) (h e.path ∙ ap (λ (b : Bool). cond b None (f e.path)) (bytes_turned path e.path))
+        ∙ ap (λ (b : Bool). cond b (part_of e ∷ counting g es) (counting g es)) (none_counts (bytes_eq e.path path) (f e.path) e.number)
+        ∙ by (bytes_eq e.path path) (counts (f e.path) e.number) refl (counting_gone es)
       where
-        by : (same counted : Bool) → bytes_eq r.0 path ≡ same → counting g (suc at) rs ≡ of_others path (counting f (suc at) rs)
-            → cond (cond same false counted) (r ∷ counting g (suc at) rs) (counting g (suc at) rs)
-            ≡ of_others path (cond counted (r ∷ counting f (suc at) rs) (counting f (suc at) rs))
-        by true true e rest = rest ∙ sym (ap (λ (b : Bool). cond (not b) (r ∷ of_others path (counting f (suc at) rs)) (of_others path (counting f (suc at) rs))) e)
-        by true false e rest = rest
-        by false true e rest =
-            ap (λ (l : List (List ℕ × PartName)). r ∷ l) rest
-            ∙ sym (ap (λ (b : Bool). cond (not b) (r ∷ of_others path (counting f (suc at) rs)) (of_others path (counting f (suc at) rs))) e)
-        by false false e rest = rest
+        by : (same counted : Bool) → bytes_eq e.path path ≡ same → counting g es ≡ of_others path (counting f es)
+            → cond (cond same false counted) (part_of e ∷ counting g es) (counting g es)
+            ≡ of_others path (cond counted (part_of e ∷ counting f es) (counting f es))
+        by true true k rest = rest ∙ sym (ap (λ (b : Bool). cond (not b) (part_of e ∷ of_others path (counting f es)) (of_others path (counting f es))) k)
+        by true false k rest = rest
+        by false true k rest =
+            ap (λ (l : List Part). part_of e ∷ l) rest
+            ∙ sym (ap (λ (b : Bool). cond (not b) (part_of e ∷ of_others path (counting f es)) (of_others path (counting f es))) k)
+        by false false k rest = rest
 
     pub within_gone : (end : ℕ) → AreWithin f end → AreWithin g end
     within_gone end w = λ q. subst (λ (o : Option ℕ). IfSome o (λ at. at ≤ end)) (sym (h q)) (by (bytes_eq path q) (f q) (w q))
@@ -230,20 +266,19 @@ module _ (f g : List ℕ → Option ℕ) where
         by true o k = tt
         by false o k = k
 
--- of a path without a place no part counts
-pub counting_none : (f : List ℕ → Option ℕ) (path : List ℕ) → f path ≡ None → (at : ℕ) (parts : List (List ℕ × PartName))
-    → of_others path (counting f at parts) ≡ counting f at parts
-counting_none f path n at [] = refl
-counting_none f path n at (r ∷ rs) = by (bytes_eq r.0 path) (counts (f r.0) at) refl refl (counting_none f path n (suc at) rs)
+-- of a path without a number no part counts
+pub counting_none : (f : List ℕ → Option ℕ) (path : List ℕ) → f path ≡ None → (es : List Entry) → of_others path (counting f es) ≡ counting f es
+counting_none f path n [] = refl
+counting_none f path n (e ∷ es) = by (bytes_eq e.path path) (counts (f e.path) e.number) refl refl (counting_none f path n es)
   where
-    by : (same counted : Bool) → bytes_eq r.0 path ≡ same → counts (f r.0) at ≡ counted → of_others path (counting f (suc at) rs) ≡ counting f (suc at) rs
-        → of_others path (cond counted (r ∷ counting f (suc at) rs) (counting f (suc at) rs)) ≡ cond counted (r ∷ counting f (suc at) rs) (counting f (suc at) rs)
-    by same false e c rest = rest
-    by false true e c rest =
-        ap (λ (b : Bool). cond (not b) (r ∷ of_others path (counting f (suc at) rs)) (of_others path (counting f (suc at) rs))) e
-        ∙ ap (λ (l : List (List ℕ × PartName)). r ∷ l) rest
-    by true true e c rest =
-        let z : false ≡ true = sym (ap (λ (o : Option ℕ). counts o at) (ap f ((bytes_eq-Decides r.0 path).0 e) ∙ n)) ∙ c in
+    by : (same counted : Bool) → bytes_eq e.path path ≡ same → counts (f e.path) e.number ≡ counted → of_others path (counting f es) ≡ counting f es
+        → of_others path (cond counted (part_of e ∷ counting f es) (counting f es)) ≡ cond counted (part_of e ∷ counting f es) (counting f es)
+    by same false k c rest = rest
+    by false true k c rest =
+        ap (λ (b : Bool). cond (not b) (part_of e ∷ of_others path (counting f es)) (of_others path (counting f es))) k
+        ∙ ap (λ (l : List Part). part_of e ∷ l) rest
+    by true true k c rest =
+        let z : false ≡ true = sym (ap (λ (o : Option ℕ). counts o e.number) (ap f ((bytes_eq-Decides e.path path).0 k) ∙ n)) ∙ c in
         absurd cc
 
 -- what holds in any case holds where an error is handed on

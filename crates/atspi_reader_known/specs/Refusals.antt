@@ -1,10 +1,11 @@
 -- Which parts were refused, by the paths of their rows.
-use Rattle.std.specs.Prelude.{◌≡◌, ℕ, suc, ◌≤◌, nat_le, Bool, false, cond, ◌&&◌, ◌||◌, List, [], ◌∷◌, Option, Some}
+use Rattle.std.specs.Prelude.{◌≡◌, ℕ, ◌≤◌, ◌<◌, nat_le, Bool, false, cond, ◌&&◌, ◌||◌, List, [], ◌∷◌, Option, Some}
 use Rattle.std.specs.Prelude.{None, IfSome, bytes_eq}
 use Rattle.std.specs.BTreeSet.{contains_text}
 use Rattle.atspi_protocol.specs.declared.news.part.PartName.{PartName}
 use Rattle.atspi_protocol.specs.declared.news.part.PartName.TheVariants.{Text, Caret, Columns}
 use Rattle.atspi_protocol.specs.following.Wishes.{is_refused, of_others, same_part}
+use Rattle.atspi_reader_known.specs.declared.refused.Entry.{Entry}
 use Rattle.atspi_reader_known.specs.declared.refused.Parts.{Parts}
 
 -- whether the path is among those of the part
@@ -22,8 +23,7 @@ abbrev pub Puts : Parts → Parts → List ℕ → PartName → Type 0
 Puts old new path part = (q : List ℕ) (p : PartName)
     → has_part new q p ≡ (has_part old q p || (bytes_eq path q && same_part part p))
 
--- Of a list of all parts that were refused, those that count: of each path from a place on, of some of no place. The
--- list begins at a place.
+-- Of a list of parts that were refused, those that count: of each path from a number on, of some of no number.
 abbrev pub counts : Option ℕ → ℕ → Bool
 counts None at = false
 counts (Some since) at = nat_le since at
@@ -33,14 +33,18 @@ abbrev pub or_place : Option ℕ → ℕ → Option ℕ
 or_place None other = Some other
 or_place (Some place) other = Some place
 
-abbrev pub counting : (List ℕ → Option ℕ) → ℕ → List (List ℕ × PartName) → List (List ℕ × PartName)
-counting since at [] = []
-counting since at (part ∷ parts) =
-    cond (counts (since part.0) at) (part ∷ counting since (suc at) parts) (counting since (suc at) parts)
+abbrev pub counting : (List ℕ → Option ℕ) → List Entry → List (List ℕ × PartName)
+counting since [] = []
+counting since (e ∷ es) =
+    cond (counts (since e.path) e.number) ((e.path, e.part) ∷ counting since es) (counting since es)
 
--- no place is behind the end of the list
+-- no number is behind the next one; each that was given is before it
 abbrev pub AreWithin : (List ℕ → Option ℕ) → ℕ → Type 0
-AreWithin since end = (path : List ℕ) → IfSome (since path) (λ place. place ≤ end)
+AreWithin since next = (path : List ℕ) → IfSome (since path) (λ number. number ≤ next)
+
+abbrev pub AreBelow : List Entry → ℕ → Type 0
+AreBelow [] next = Unit {0}
+AreBelow (e ∷ es) next = (e.number < next) × AreBelow es next
 
 -- no part of a path is in the sets any more
 abbrev pub Clears : Parts → Parts → List ℕ → Type 0

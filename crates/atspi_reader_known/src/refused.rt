@@ -1,12 +1,13 @@
 //! The parts that an application would not tell.
 
 ghost use Rattle.std.specs.Prelude.{◌≡◌, ℕ, List, [], ◌∷◌, ◌++◌, true, false, cond, bytes_eq, Some, None, Option, OnOk};
-ghost use Rattle.std.specs.Prelude.{OnErr};
+ghost use Rattle.std.specs.Prelude.{OnErr, filter};
 ghost use Rattle.std.specs.BTreeSet.{contains_text};
 ghost use Rattle.atspi_protocol.specs.declared.news.part.PartName.{PartName};
 ghost use Rattle.atspi_protocol.specs.following.Wishes as wishes;
 ghost use Rattle.atspi_reader_known.specs.Places.{place_in};
-ghost use Rattle.atspi_reader_known.specs.Refusals.{AreSame, Clears, Puts, has_part, or_place, without};
+ghost use Rattle.atspi_reader_known.specs.Refusals.{AreBelow, AreSame, Clears, Puts, counting, counts, has_part};
+ghost use Rattle.atspi_reader_known.specs.Refusals.{or_place, without};
 
 use crate::places::Places;
 use atspi_base::NoMemory;
@@ -21,12 +22,27 @@ use std::marker::Model;
 #[derive(Drop)]
 pub struct Refused {
     alloc: Global,
-    /// All that were refused, those that were forgotten too.
-    items: Vec<(Path, PartName)>,
-    /// From which place among them on the parts of a path count; those of a path without a place were forgotten.
+    /// Those that were refused, of those that were forgotten too some that were not let go yet.
+    items: Vec<Entry>,
+    /// The number of the next one.
+    next: usize,
+    /// Once so many stand there, those that were forgotten are let go.
+    limit: usize,
+    /// From which number on the parts of a path count; those of a path without a number were forgotten.
     since: Places,
     parts: Parts,
 }
+
+/// A part that was refused, with its number; numbers rise.
+#[derive(Drop)]
+pub(crate) struct Entry {
+    number: usize,
+    path: Path,
+    part: PartName,
+}
+
+/// So many may stand there before any is let go.
+const LEAST: usize = 16;
 
 /// The paths of the rows of which each part was refused.
 #[derive(Drop)]
@@ -45,14 +61,13 @@ impl Model for Refused {
 
     ghost coded = { refused_code };
 
-    ghost use Rattle.std.specs.Prelude.{length};
     ghost use Rattle.atspi_reader_known.specs.Places.{place_in};
-    ghost use Rattle.atspi_reader_known.specs.Refusals.{AreSame, AreWithin, counting};
+    ghost use Rattle.atspi_reader_known.specs.Refusals.{AreBelow, AreSame, AreWithin, counting};
 
-    ghost view = { λ r. counting (place_in r.since) 0 r.items.items };
+    ghost view = { λ r. counting (place_in r.since) r.items.items };
 
-    ghost invariant = { λ r. AreSame r.parts (counting (place_in r.since) 0 r.items.items)
-        × AreWithin (place_in r.since) (length r.items.items) };
+    ghost invariant = { λ r. AreSame r.parts (counting (place_in r.since) r.items.items)
+        × AreWithin (place_in r.since) r.next × AreBelow r.items.items r.next };
 }
 
 /// Puts a path into a set. After want of memory the set is as before.
@@ -77,6 +92,37 @@ fn note(since: &mut Places, path: &Path, place: usize) -> Result<(), NoMemory>
         return Ok(());
     }
     since.put(name, place)
+}
+
+/// Whether a part counts.
+fn is_counted(since: &Places, entry: &Entry) -> bool
+    ensures { result ≡ counts (place_in since.now entry.now.path) entry.now.number }
+{
+    match since.find(entry.path.as_str()) {
+        Some(number) => number <= entry.number,
+        None => false,
+    }
+}
+
+/// Those that count are kept.
+fn keep_counted(items: &mut Vec<Entry>, since: &Places)
+    ensures { items.new.items
+        ≡ filter (λ (e : Entry). counts (place_in since.now e.path) e.number) items.old.items }
+{
+    items.retain(|entry| is_counted(since, entry));
+}
+
+/// Those that were forgotten are let go once as many stand there as twice what was left the last time: so half of all
+/// go at least, and each costs what it cost to be refused, however often its row goes and comes.
+fn let_go(items: &mut Vec<Entry>, since: &Places, limit: &mut usize)
+    ensures counting { counting (place_in since.now) items.new.items ≡ counting (place_in since.now) items.old.items }
+    ensures below { (next : ℕ) → AreBelow items.old.items next → AreBelow items.new.items next }
+{
+    if items.len() < *limit {
+        return;
+    }
+    keep_counted(items, since);
+    *limit = items.len().saturating_mul(2).max(LEAST);
 }
 
 /// Takes a path out of a set.
@@ -139,6 +185,8 @@ impl Refused {
         Refused {
             alloc,
             items: Vec::new(alloc),
+            next: 0,
+            limit: LEAST,
             since: Places::new(alloc),
             parts: Parts::new(alloc),
         }
@@ -156,10 +204,16 @@ impl Refused {
         ensures ok { OnOk result (self.new ≡ self.old ++ (path, part) ∷ []) }
         ensures err { OnErr result (self.new ≡ self.old) }
     {
+        if self.next == usize::MAX {
+            return Err(NoMemory);
+        }
+        let_go(&mut self.items, &self.since, &mut self.limit);
         self.items.reserve(1)?;
-        note(&mut self.since, &path, self.items.len())?;
+        note(&mut self.since, &path, self.next)?;
         self.parts.put(self.alloc, &path, part)?;
-        match self.items.push((path, part)) {
+        let number = self.next;
+        self.next += 1;
+        match self.items.push(Entry { number, path, part }) {
             Ok(()) => Ok(()),
             Err(_) => unreachable!(),
         }

@@ -17,4 +17,4 @@ returns c = λ none.
     let at : place_in i.since path ≡ None =
     is_none (place_in i.since path)
     (ap (λ (p : List ℕ). is_some (place_in i.since p)) (sym c.as_str.ensures.bytes) ∙ ap is_some (sym c.find.ensures) ∙ sym c.is_some.ensures ∙ none) in
-    subst (λ (r : List (List ℕ × PartName)). of_others path r ≡ r) c.self.view_is (counting_none (place_in i.since) path at 0 i.items.items)
+    subst (λ (r : List (List ℕ × PartName)). of_others path r ≡ r) c.self.view_is (counting_none (place_in i.since) path at i.items.items)
