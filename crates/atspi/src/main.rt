@@ -1,14 +1,9 @@
 //! The program `atspi`: the top call over the command line, standard input, standard output and the system's sockets.
 #![tactic(auto)]
 
-mod input;
-mod output;
-mod retry;
-
 use atspi_live_sockets::NetHost;
 use atspi_run::{longest_rest, run};
-use input::StandardInput;
-use output::StandardOutput;
+use atspi_standard_streams::{StandardInput, StandardOutput};
 use std::env;
 use std::io::ErrorKind;
 use std::process::ExitCode;

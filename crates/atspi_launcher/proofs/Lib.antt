@@ -1,0 +1,3 @@
+pub mod Reading
+pub mod Doing
+pub mod Sending

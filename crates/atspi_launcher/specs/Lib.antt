@@ -1,0 +1,5 @@
+pub mod inner
+pub mod Asked
+pub mod Described
+pub mod Launching
+pub mod Laws

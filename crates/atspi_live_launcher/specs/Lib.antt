@@ -1,0 +1,3 @@
+pub mod inner
+pub mod Standing
+pub mod Runs

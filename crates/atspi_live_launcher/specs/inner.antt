@@ -1,0 +1,2 @@
+-- Words that only private contracts and proofs use: nothing here has to be believed.
+pub mod Talks
