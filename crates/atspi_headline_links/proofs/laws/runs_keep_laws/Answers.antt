@@ -1,0 +1,5 @@
+use Rattle.atspi_headline_links.proofs.Proving.{keep_laws}
+use Rattle.atspi_headline_links.proofs.laws.runs_keep_laws.Goals as goal
+
+pub returns : goal.returns
+returns c = keep_laws
