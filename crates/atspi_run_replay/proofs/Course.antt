@@ -1,8 +1,8 @@
 -- The run so far: which lines were done, the world that they came to, and what was told of them.
-use Rattle.std.proofs.Common.{◌≡◌, ℕ, suc, ◌+◌, ◌<◌, List, [], ◌∷◌, ◌++◌, length, refl, sym, ap, subst, ◌∙◌, arith, append_assoc, append-nil, length-append, Option, None, inl, inr, ◌⊎◌}
+use Rattle.std.proofs.Common.{◌≡◌, ℕ, ◌+◌, ◌<◌, List, [], ◌∷◌, ◌++◌, length, refl, sym, ap, subst, ◌∙◌, arith, append_assoc, append-nil, length-append, Option, None, inl, inr, ◌⊎◌}
 use Rattle.std.specs.Io.KnownBytes.{Appends}
 use Rattle.std.specs.List.{AllByRecursion}
-use Rattle.atspi_base.specs.Outside.{AppendsPart, appends_both, appends_part}
+use Rattle.atspi_base.specs.Outside.{appends_both, appends_part}
 use Rattle.atspi_trace_texts.specs.declared.options.TraceOptions.{TraceOptions}
 use Rattle.atspi_script_lines.specs.declared.limits.TheConstants.{QUOTA_MOST}
 use Rattle.atspi_script_lines.specs.declared.line.Line.{Line}
@@ -26,14 +26,14 @@ use Rattle.atspi_run_replay.specs.declared.naming.Halt.{Halt}
 use Rattle.atspi_run_replay.specs.declared.naming.Halt.TheVariants.{RegistryLost, Spent}
 use Rattle.atspi_run_replay.specs.declared.naming.Refused as refused
 use Rattle.atspi_run_replay.specs.declared.naming.Refused.TheVariants.{Long, NotUtf8, Form, World}
-use Rattle.atspi_run_replay.specs.Names.{RefusedAs, refused_text}
+use Rattle.atspi_run_replay.specs.Names.{refused_text}
 use Rattle.atspi_run_replay.specs.Told.{Told, entries_told, told_text}
 use Rattle.atspi_run_replay.specs.Wired as wired
 use Rattle.atspi_run_replay.specs.Wired.{AreWired, IsTold}
 use Rattle.atspi_run_replay.specs.Done.{AreSpelled, BreaksOff, IsReached, EndsWith, IsHaltedBehind, IsLawfulOf, IsRefusedBehind, Upto}
 use Rattle.atspi_run_replay.specs.Play.{DoneText, HaltedText, PlayedHalted, PlayedPart, PlayedRefused, RefusedText}
 use Rattle.atspi_run_replay.specs.inner.Play.{Did, DidLine, HaltedIn, IsLineText, RefusedIn, StoppedAt, added}
-use Rattle.atspi_run_replay.proofs.DoneLemmas.{added_are, spelled_more, entries_both, text_more}
+use Rattle.atspi_run_replay.proofs.DoneLemmas.{added_are, added_unspent, all_unspent, spelled_more, entries_both, text_more}
 use Rattle.atspi_run_replay.proofs.Segments.{can_stand, played_more}
 use Rattle.atspi_run_replay.proofs.Wiring.{wired_by, added_wired}
 use Rattle.atspi_run_replay.proofs.Refusing.{begins_so, drops_last, is_refused, lawful, there}
@@ -51,6 +51,7 @@ pub record SoFar (lines rest : List (List ℕ)) (told : List Told) (number : ℕ
   pub played : IsPlayed script (entries_told told) now
   pub told_so : IsTold script told now
   pub entries : entries_told told ≡ entries_of s.trace
+  pub unspent : AllByRecursion IsUnspent (entries_told told)
 
 pub so_far_start : (lines : List (List ℕ)) (s : Staged) → IsPlaying (first_playing QUOTA_MOST) s → s.trace ≡ [] → SoFar lines lines [] 0 s
 so_far_start lines s is silent = record {
@@ -65,6 +66,7 @@ so_far_start lines s is silent = record {
   played = begun;
   told_so = wired.begun;
   entries = ap entries_of (sym silent);
+  unspent = tt;
 }
 
 pub can_more : (lines : List Line) (line : Line) → CanAllStand lines → CanStand line → CanAllStand (lines ++ line ∷ [])
@@ -93,6 +95,7 @@ so_far_more {rest = rest} {told = told} {bytes = bytes} {s = s} new c d =
           line.done.is.is.lives
           (subst (λ es. AreWired line.done.after.world es (added s new)) (sym c.entries) (added_wired line.done.after s new line.done.entries line.done.is line.done.wrote));
       entries = entries ∙ ap (λ es. es ++ line.done.entries) c.entries ∙ sym line.done.wrote;
+      unspent = added_unspent told s new c.unspent d.3;
     }
 
 -- and what it added is written
@@ -106,7 +109,7 @@ one_more options {told = told} {s = s} new w w' w'' c a did = (
 
 -- WHAT WAS TOLD IS A LAWFUL TRACE OF THEM
 abbrev pub so_far_upto : {lines rest : List (List ℕ)} {told : List Told} {number : ℕ} {s : Staged} → SoFar lines rest told number s → Upto lines rest told
-so_far_upto {told = told} c = record { done = c.done; front = c.front; lawful = record { lines = c.script; spelled = c.spelled; lawful = lawful c.script (entries_told told) c.now c.can c.played; there = there c.script (entries_told told) c.now c.can c.played; now = c.now; told_so = c.told_so } }
+so_far_upto {told = told} c = record { done = c.done; front = c.front; lawful = record { lines = c.script; spelled = c.spelled; lawful = lawful c.script (entries_told told) c.now c.can c.played; there = there c.script (entries_told told) c.now c.can c.played; unspent = c.unspent; now = c.now; told_so = c.told_so } }
 
 pub so_far_end : {lines : List (List ℕ)} {told : List Told} {number : ℕ} {s : Staged} → SoFar lines [] told number s → IsLawfulOf lines told
 so_far_end {told = told} c = subst (λ ls. IsLawfulOf ls told) (sym (c.front ∙ append-nil c.done)) (so_far_upto c).lawful
@@ -137,10 +140,10 @@ refused_so {options = options} {rest = rest} {told = told} {bytes = bytes} why t
 
 -- THE WORLD COMES TO ITS END AT THE NEXT LINE: what that added is what its causes wrote up to there, with the bytes of its messages
 breaks_off : {lines rest : List (List ℕ)} {told : List Told} {number : ℕ} {s : Staged} (c : SoFar lines rest told number s) (new : Staged) (bytes : List ℕ) (line : Line) (why : Halt) → Spells line bytes
-    → refused c.now line ≡ None → (entries : List Entry) → entries_of new.trace ≡ entries_of s.trace ++ entries → (breaks : BreaksOff why c.now (work_of c.now.world line) entries)
+    → AllByRecursion IsUnspent (entries_of new.trace) → refused c.now line ≡ None → (entries : List Entry) → entries_of new.trace ≡ entries_of s.trace ++ entries → (breaks : BreaksOff why c.now (work_of c.now.world line) entries)
     → (IsLostAt c.now (work_of c.now.world line) entries ⊎ IsSpentAt c.now (work_of c.now.world line) entries)
     → EndsWith why entries → (w : worlds.World) → IsReached why c.now (work_of c.now.world line) entries breaks w → HaveNames w new.posts → IsHaltedBehind c.script told (added s new) c.now bytes why
-breaks_off {told = told} {s = s} c new bytes line why spells ok entries wrote breaks broken ends w reached names =
+breaks_off {told = told} {s = s} c new bytes line why spells fits ok entries wrote breaks broken ends w reached names =
     let are : entries_told (added s new) ≡ entries = added_are s new entries wrote in
     let both : (b : BreaksOff why c.now (work_of c.now.world line) (entries_told (added s new))) × IsReached why c.now (work_of c.now.world line) (entries_told (added s new)) b w =
     subst (λ (es : List Entry). (b : BreaksOff why c.now (work_of c.now.world line) es) × IsReached why c.now (work_of c.now.world line) es b w) (sym are) (breaks, reached) in
@@ -153,6 +156,7 @@ breaks_off {told = told} {s = s} c new bytes line why spells ok entries wrote br
       begun =
           subst (Begun (c.script ++ line ∷ [])) (sym (entries_both told (added s new) ∙ ap (λ es. entries_told told ++ es) are))
           (begins_so c.script (entries_told told) c.now line entries (can_more c.script line c.can (can_stand line bytes spells)) c.played ok broken);
+      unspent = all_unspent told s new entries c.entries wrote fits;
       last = subst (EndsWith why) (sym are) ends;
       reached = w;
       is_reached = both.1;
@@ -160,24 +164,24 @@ breaks_off {told = told} {s = s} c new bytes line why spells ok entries wrote br
     }
 
 -- serials are spent at it, in the world before the cause that spends them, or behind it
-spent_behind : {lines rest : List (List ℕ)} {told : List Told} {number : ℕ} {s : Staged} (c : SoFar lines rest told number s) (new : Staged) (bytes : List ℕ) (line : Line) → Spells line bytes → refused c.now line ≡ None
+spent_behind : {lines rest : List (List ℕ)} {told : List Told} {number : ℕ} {s : Staged} (c : SoFar lines rest told number s) (new : Staged) (bytes : List ℕ) (line : Line) → Spells line bytes → AllByRecursion IsUnspent (entries_of new.trace) → refused c.now line ≡ None
     → (entries : List Entry) (b : IsSpentAt c.now (work_of c.now.world line) entries) → entries_of new.trace ≡ entries_of s.trace ++ entries
     → HaveNames b.at.moved new.posts ⊎ HaveNames (does_next b.at).now.world new.posts → IsHaltedBehind c.script told (added s new) c.now bytes Spent
-spent_behind c new bytes line spells ok entries b wrote (inl names) = breaks_off c new bytes line Spent spells ok entries wrote b (inr b) tt b.at.moved (inl refl) names
-spent_behind c new bytes line spells ok entries b wrote (inr names) = breaks_off c new bytes line Spent spells ok entries wrote b (inr b) tt (does_next b.at).now.world (inr refl) names
+spent_behind c new bytes line spells fits ok entries b wrote (inl names) = breaks_off c new bytes line Spent spells fits ok entries wrote b (inr b) tt b.at.moved (inl refl) names
+spent_behind c new bytes line spells fits ok entries b wrote (inr names) = breaks_off c new bytes line Spent spells fits ok entries wrote b (inr b) tt (does_next b.at).now.world (inr refl) names
 
 pub halted_behind : {lines rest : List (List ℕ)} {told : List Told} {number : ℕ} {s : Staged} (c : SoFar lines rest told number s) (new : Staged) (bytes : List ℕ) (why : Halt) → HaltedIn s new bytes why
     → IsHaltedBehind c.script told (added s new) c.now bytes why
 halted_behind {told = told} {s = s} c new bytes RegistryLost h =
     let x = h.2 c.now c.is in
-    breaks_off c new bytes h.0 RegistryLost h.1 x.0 x.1.0 x.1.2 x.1.1 (inl x.1.1)
+    breaks_off c new bytes h.0 RegistryLost h.1 h.3 x.0 x.1.0 x.1.2 x.1.1 (inl x.1.1)
     (drops_last c.script (entries_told told) c.now h.0 x.1.0 (can_more c.script h.0 c.can (can_stand h.0 bytes h.1)) c.played x.0 x.1.1) (does_next x.1.1.at).now.world refl x.1.3
 halted_behind {told = told} {s = s} c new bytes Spent h =
     let x = h.2 c.now c.is in
     by x.0 x.1
   where
     by : refused c.now h.0 ≡ None → (WorkSpent c.now (work_of c.now.world h.0) s new ⊎ ManyTurns c.now s new) → IsHaltedBehind c.script told (added s new) c.now bytes Spent
-    by ok (inl x) = spent_behind c new bytes h.0 h.1 ok x.0 x.1 x.2 x.3
+    by ok (inl x) = spent_behind c new bytes h.0 h.1 h.3 ok x.0 x.1 x.2 x.3
     by ok (inr x) =
         let all : entries_of new.trace ≡ entries_told told ++ x.0 = x.4 ∙ ap (λ es. es ++ x.0) (sym c.entries) in
         let fewer : 4398046511104 < 4398046511104 = drains_end c.script (entries_told told) c.now c.can c.played 4398046511104 x.0 x.1 x.2 x.3 (subst (AllByRecursion IsUnspent) all h.3) in
@@ -234,4 +238,4 @@ halted_next {options = options} {told = told} {s = s} why new w w' w'' c a h b =
 
 -- nothing was told of no lines
 pub nothing_told : (lines : List (List ℕ)) → Upto lines lines []
-nothing_told lines = record { done = []; front = refl; lawful = record { lines = []; spelled = tt; lawful = lawful [] [] (first_playing QUOTA_MOST) tt begun; there = refl; now = first_playing QUOTA_MOST; told_so = wired.begun } }
+nothing_told lines = record { done = []; front = refl; lawful = record { lines = []; spelled = tt; lawful = lawful [] [] (first_playing QUOTA_MOST) tt begun; there = refl; unspent = tt; now = first_playing QUOTA_MOST; told_so = wired.begun } }

@@ -1,13 +1,15 @@
 -- What a line adds to what is told, and the text of it.
-use Rattle.std.proofs.Common.{◌≡◌, ℕ, suc, List, [], ◌∷◌, ◌++◌, drop, length, refl, sym, ap, ◌∙◌, append-nil, Option, None, Some}
+use Rattle.std.proofs.Common.{◌≡◌, ℕ, suc, List, [], ◌∷◌, ◌++◌, drop, length, refl, sym, ap, subst, ◌∙◌, append-nil, Option, None, Some}
 use Rattle.std.proofs.lemmas.Grind.{flat_map-append}
 use Rattle.std.specs.Io.KnownBytes.{Appends}
+use Rattle.std.specs.List.{AllByRecursion}
 use Rattle.atspi_trace_events.specs.declared.event.Event.{Event}
 use Rattle.atspi_trace_texts.specs.declared.options.TraceOptions.{TraceOptions}
 use Rattle.atspi_script_lines.specs.declared.line.Line.{Line}
 use Rattle.atspi_script_lines.specs.Line.{Spells}
 use Rattle.atspi_world_links.specs.declared.post.Post.{Post}
 use Rattle.atspi_trace.specs.Entry.{Entry, entry_of, entries_of}
+use Rattle.atspi_trace_played.specs.Turns.{IsUnspent}
 use Rattle.atspi_world.specs.Worlds.{Staged}
 use Rattle.atspi_run_replay.specs.Told.{Told, entries_told, entry_text, told_text}
 use Rattle.atspi_run_replay.specs.inner.Told.{told_on}
@@ -53,3 +55,23 @@ behind (event ∷ before) (other ∷ events) entries h = behind before events en
 -- what a line added is what its causes wrote
 pub added_are : (old new : Staged) (entries : List Entry) → entries_of new.trace ≡ entries_of old.trace ++ entries → entries_told (added old new) ≡ entries
 added_are old new entries h = entries_on new.posts new.trace (length old.trace) (drop (length old.trace) new.trace) ∙ behind old.trace new.trace entries h
+
+-- no serial of what was told is past the last, where none of its parts is
+pub unspent_both : (es ys : List Entry) → AllByRecursion IsUnspent es → AllByRecursion IsUnspent ys → AllByRecursion IsUnspent (es ++ ys)
+unspent_both [] ys a b = b
+unspent_both (e ∷ es) ys a b = (a.0, unspent_both es ys a.1 b)
+
+-- what a line added is what stands behind the old trace
+pub added_unspent : (told : List Told) (old new : Staged) → AllByRecursion IsUnspent (entries_told told) → AllByRecursion IsUnspent (entries_of (drop (length old.trace) new.trace))
+    → AllByRecursion IsUnspent (entries_told (told ++ added old new))
+added_unspent told old new before fits =
+    subst (AllByRecursion IsUnspent)
+    (sym (entries_both told (added old new) ∙ ap (λ es. entries_told told ++ es) (entries_on new.posts new.trace (length old.trace) (drop (length old.trace) new.trace))))
+    (unspent_both (entries_told told) (entries_of (drop (length old.trace) new.trace)) before fits)
+
+-- and of a line that ended the world all serials were read
+pub all_unspent : (told : List Told) (old new : Staged) (entries : List Entry) → entries_told told ≡ entries_of old.trace → entries_of new.trace ≡ entries_of old.trace ++ entries → AllByRecursion IsUnspent (entries_of new.trace)
+    → AllByRecursion IsUnspent (entries_told (told ++ added old new))
+all_unspent told old new entries so wrote fits =
+    subst (AllByRecursion IsUnspent)
+    (wrote ∙ ap (λ es. es ++ entries) (sym so) ∙ ap (λ es. entries_told told ++ es) (sym (added_are old new entries wrote)) ∙ sym (entries_both told (added old new))) fits

@@ -17,6 +17,7 @@ pub mod Segments
 pub mod StopLemmas
 pub mod TellLemmas
 pub mod TheFirst
+pub mod TracesOfTexts
 pub mod TreesTold
 pub mod Stopping
 pub mod Wiring

@@ -1,5 +1,5 @@
 -- What `make` does, by its status.
-use Rattle.std.proofs.Common.{◌≡◌, ℕ, Option, List, refl, arith, inl, inr}
+use Rattle.std.proofs.Common.{ℕ, Option, List, refl, arith, inl, inr}
 use Rattle.std.specs.Io.KnownBytes.{Appends}
 use Rattle.atspi_base.specs.Outside.{AppendsPart}
 use Rattle.atspi_run_replay.specs.declared.naming.Halt.TheVariants.{RegistryLost, Spent}

@@ -65,9 +65,9 @@ module _ (count seed : ℕ) (lines : List Line) (line : Line) (s : Staged) (may 
   }
 
   -- the world comes to its end at it
-  halted_of : (why : Halt) (more : List Entry) → playing.refused h.now line ≡ None → BreaksOff why h.now (work_of h.now.world line) more
+  halted_of : (why : Halt) (more : List Entry) → AllByRecursion IsUnspent (entries_of s.trace ++ more) → playing.refused h.now line ≡ None → BreaksOff why h.now (work_of h.now.world line) more
       → (IsLostAt h.now (work_of h.now.world line) more ⊎ IsSpentAt h.now (work_of h.now.world line) more) → EndsWith why more → IsHaltedOf why count seed
-  halted_of why more accepted breaks broken ends = record {
+  halted_of why more fits accepted breaks broken ends = record {
     lines = lines;
     line = line;
     trace = entries_of s.trace;
@@ -79,14 +79,15 @@ module _ (count seed : ℕ) (lines : List Line) (line : Line) (s : Staged) (may 
       accepted = accepted;
       breaks = breaks;
       begun = begins_so lines (entries_of s.trace) h.now line more can h.played accepted broken;
+      unspent = fits;
       last = ends;
     };
   }
 
-  lost_of : (new : Staged) → LineLost line s new → IsHaltedOf RegistryLost count seed
-  lost_of new lost =
+  lost_of : (new : Staged) → LineLost line s new → AllByRecursion IsUnspent (entries_of new.trace) → IsHaltedOf RegistryLost count seed
+  lost_of new lost fits =
       let x = lost h.now h.is in
-      halted_of RegistryLost x.1.0 x.0 x.1.1 (inl x.1.1) (drops_last lines (entries_of s.trace) h.now line x.1.0 can h.played x.0 x.1.1)
+      halted_of RegistryLost x.1.0 (subst (AllByRecursion IsUnspent) x.1.2 fits) x.0 x.1.1 (inl x.1.1) (drops_last lines (entries_of s.trace) h.now line x.1.0 can h.played x.0 x.1.1)
 
   spent_of : (new : Staged) → LineSpent line s new → AllByRecursion IsUnspent (entries_of new.trace) → IsHaltedOf Spent count seed
   spent_of new spent fits =
@@ -94,7 +95,7 @@ module _ (count seed : ℕ) (lines : List Line) (line : Line) (s : Staged) (may 
       by x.0 x.1
     where
       by : playing.refused h.now line ≡ None → (WorkSpent h.now (work_of h.now.world line) s new ⊎ ManyTurns h.now s new) → IsHaltedOf Spent count seed
-      by accepted (inl x) = halted_of Spent x.0 accepted x.1 (inr x.1) tt
+      by accepted (inl x) = halted_of Spent x.0 (subst (AllByRecursion IsUnspent) x.2 fits) accepted x.1 (inr x.1) tt
       by accepted (inr x) =
           let fewer : 4398046511104 < 4398046511104 = drains_end lines (entries_of s.trace) h.now h.can h.played 4398046511104 x.0 x.1 x.2 x.3 (subst (AllByRecursion IsUnspent) x.4 fits) in
           absurd (omega (arith, fewer))
@@ -104,7 +105,7 @@ pub act_stops : (fault : ActFault) (line : Line) (old new : Staged) → MayAct l
     → (fault ≡ act.RegistryLost → LineLost line old new) → (fault ≡ act.Spent → LineSpent line old new) → AllByRecursion IsUnspent (entries_of new.trace) → StopsAt line old (stop_of fault)
 act_stops (act.Refused why) line old new may refuses loses spends fits = λ count seed lines h next. refused_of count seed lines line old may h next why (refuses why refl)
 act_stops act.Spent line old new may refuses loses spends fits = λ count seed lines h next. spent_of count seed lines line old may h next new (spends refl) fits
-act_stops act.RegistryLost line old new may refuses loses spends fits = λ count seed lines h next. lost_of count seed lines line old may h next new (loses refl)
+act_stops act.RegistryLost line old new may refuses loses spends fits = λ count seed lines h next. lost_of count seed lines line old may h next new (loses refl) fits
 act_stops act.Unsendable line old new may refuses loses spends fits = λ count seed lines h next. tt
 act_stops act.NoMemory line old new may refuses loses spends fits = λ count seed lines h next. tt
 

@@ -1,7 +1,6 @@
 -- The bytes of what a line added are those that its entries and the names of the ends tell.
-use Rattle.std.proofs.Common.{◌≡◌, ℕ, zero, suc, ◌==◌, ◌&&◌, ◌||◌, Bool, true, false, cond, List, [], ◌∷◌, ◌++◌, drop, length, map, take, Option, None, Some, option_map, refl, sym, ap, subst, ◌∙◌, append_assoc}
+use Rattle.std.proofs.Common.{◌≡◌, ℕ, zero, suc, ◌==◌, ◌&&◌, ◌||◌, Bool, true, false, cond, List, [], ◌∷◌, ◌++◌, drop, length, map, take, Option, None, Some, option_map, refl, sym, ap, subst, ◌∙◌}
 use Rattle.std.specs.Prelude.{find, slice_get, if◌then◌else◌}
-use Rattle.std.proofs.lemmas.List.{take_at}
 use Rattle.atspi_trace_events.specs.declared.event.Event.{Event}
 use Rattle.atspi_trace_events.specs.declared.event.Event.TheVariants.{Start, Step, Sent, Got, Hears, Deaf, Say, Show, Exit, Gone, Dropped, Busy, Quiet}
 use Rattle.atspi_tree_model.specs.Forest.{first_of}
@@ -25,8 +24,8 @@ use Rattle.atspi_world_parties.specs.Wires as wires
 use Rattle.atspi_world_parties.specs.Wires.{name_if, event_bytes}
 use Rattle.atspi_world.specs.Worlds.{Staged, IsPlaying}
 use Rattle.atspi_run_replay.specs.Told.{Told, entries_told}
-use Rattle.atspi_run_replay.specs.inner.Told.{told_at, told_on, told_from}
-use Rattle.atspi_run_replay.specs.Wired.{sent_as, sent_in, name_of, as_taken, taken_bytes, bytes_behind, AreWired, IsTold, begun, did}
+use Rattle.atspi_run_replay.specs.inner.Told.{told_on, told_from}
+use Rattle.atspi_run_replay.specs.Wired.{sent_as, sent_in, name_of, taken_bytes, bytes_behind, AreWired, IsTold, begun, did}
 use Rattle.atspi_run_replay.proofs.DoneLemmas.{entries_both}
 
 -- the names of ends are those of their connections

@@ -1,7 +1,7 @@
 -- What follows where nothing that `replay` is lent fails, and its lines apply.
-use Rattle.std.specs.Prelude.{◌≡◌, ◌⊎◌, ℕ, ◌<◌, ◌≤◌, List, ◌∷◌, length, Option, IfSome}
+use Rattle.std.specs.Prelude.{◌≡◌, ◌⊎◌, ℕ, ◌<◌, ◌≤◌, List, ◌∷◌, length, take, Option, IfSome}
 use Rattle.atspi_run_replay.specs.declared.naming.Refused.{Refused}
-use Rattle.atspi_run_replay.specs.Lines.{lines_of}
+use Rattle.atspi_run_replay.specs.Lines.{lines_of, whole_lines}
 use Rattle.atspi_run_replay.specs.Told.{Told}
 use Rattle.atspi_run_replay.specs.Done.{IsRefusedBehind, Upto}
 
@@ -22,3 +22,13 @@ EndsWell status = (status ≡ 0) ⊎ ((status ≡ 5) ⊎ ((status ≡ 9) ⊎ (st
 abbrev pub EndsWellWithin : ℕ → ℕ → Option (List ℕ) → Type 0
 EndsWellWithin limit status left =
     IfSome left (λ input. length input ≤ limit → AllApply (lines_of input) → EndsWell status)
+
+-- the limit was passed; or memory is wanting, the registry was dropped at its quota, or serials were spent
+abbrev pub EndsFull : ℕ → Type 0
+EndsFull status = (status ≡ 8) ⊎ ((status ≡ 5) ⊎ ((status ≡ 9) ⊎ (status ≡ 13)))
+
+-- ONE THAT PASSES THE LIMIT ENDS SO, where the whole lines inside it apply: what stands behind it is not looked at
+abbrev pub EndsFullPast : ℕ → ℕ → Option (List ℕ) → Type 0
+EndsFullPast limit status left =
+    IfSome left
+    (λ input. limit < length input → AllApply (whole_lines (take limit input)) → EndsFull status)

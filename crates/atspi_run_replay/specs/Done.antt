@@ -1,5 +1,6 @@
 -- What lines of a script come to: a lawful trace of them.
 use Rattle.std.specs.Prelude.{◌≡◌, ◌⊎◌, ℕ, false, List, [], ◌∷◌, ◌++◌, None, Some}
+use Rattle.std.specs.List.{AllByRecursion}
 use Rattle.atspi_script_lines.specs.declared.line.Line.{Line}
 use Rattle.atspi_script_lines.specs.Line.{Spells}
 use Rattle.atspi_script_lines.specs.declared.line.Party.TheVariants.{Registry}
@@ -10,6 +11,7 @@ use Rattle.atspi_trace.specs.Due.{begins, at_work, after_all, is_lost, Lawful, B
 use Rattle.atspi_trace.specs.play.Playing.{Playing}
 use Rattle.atspi_trace.specs.play.Played.{refused}
 use Rattle.atspi_trace.specs.play.Breaking.{does_next, IsLostAt, IsSpentAt}
+use Rattle.atspi_trace_played.specs.Turns.{IsUnspent}
 use Rattle.atspi_world_parties.specs.Refusals.{refusal_of}
 use Rattle.atspi_run_replay.specs.declared.naming.Halt.{Halt}
 use Rattle.atspi_run_replay.specs.declared.naming.Halt.TheVariants.{RegistryLost, Spent}
@@ -29,12 +31,14 @@ AreSpelled texts lines = ⊥
 abbrev pub HasRegistry : List Line → List Entry → Type 0
 HasRegistry lines trace = is_lost (at_work (after_all (begins lines) trace)).world ≡ false
 
--- WHAT WAS TOLD IS A LAWFUL TRACE OF THE LINES, with the bytes of its messages, and the registry is there behind it
+-- WHAT WAS TOLD IS A LAWFUL TRACE OF THE LINES, with the bytes of its messages; the registry is there behind it, and no
+-- message of it passes the last serial
 pub record IsLawfulOf (texts : List (List ℕ)) (told : List Told) : Type 0 where
   pub lines : List Line
   pub spelled : AreSpelled texts lines
   pub lawful : Lawful lines (entries_told told)
   pub there : HasRegistry lines (entries_told told)
+  pub unspent : AllByRecursion IsUnspent (entries_told told)
   pub now : Playing
   pub told_so : IsTold lines told now
 
@@ -69,7 +73,8 @@ EndsWith Spent entries = Unit {0}
 
 -- THE WORLD CAME TO ITS END AT A LINE behind them, in the world that they came to, which does not refuse it, and just
 -- what it wrote up to there was told: all of it is the front of a lawful trace, and the bytes are those of its
--- messages, by the names that ends have in the world that was reached
+-- messages, by the names that ends have in the world that was reached. No message that was told passes the last serial:
+-- where serials were spent, the cause that spent them is the first of which one would.
 pub record IsHaltedBehind (lines : List Line) (told more : List Told) (now : Playing) (bytes : List ℕ) (why : Halt)
     : Type 0 where
   pub line : Line
@@ -78,6 +83,7 @@ pub record IsHaltedBehind (lines : List Line) (told more : List Told) (now : Pla
   pub accepted : refused now line ≡ None
   pub breaks : BreaksOff why now (work_of now.world line) (entries_told more)
   pub begun : Begun (lines ++ line ∷ []) (entries_told (told ++ more))
+  pub unspent : AllByRecursion IsUnspent (entries_told (told ++ more))
   pub last : EndsWith why (entries_told more)
   pub reached : World
   pub is_reached : IsReached why now (work_of now.world line) (entries_told more) breaks reached

@@ -2,6 +2,7 @@ pub mod inner
 pub mod Lines
 pub mod Names
 pub mod Told
+pub mod OneTrace
 pub mod Wired
 pub mod Done
 pub mod Play

@@ -1,7 +1,8 @@
 -- What `make` does, by its status, and the script that it does.
-use Rattle.std.specs.Prelude.{◌≡◌, ◌⊎◌, ℕ, suc, ◌+◌, ◌<◌, ◌%◌, ◌==◌, Bool, true, false, List, [], ◌∷◌, ◌++◌, Option}
+use Rattle.std.specs.Prelude.{◌≡◌, ◌⊎◌, ℕ, suc, ◌<◌, ◌%◌, ◌==◌, Bool, true, false, List, [], ◌∷◌, ◌++◌, Option}
 use Rattle.std.specs.Prelude.{None, Some, codes, count_by, if◌then◌else◌}
 use Rattle.std.specs.Fmt.{decimal}
+use Rattle.std.specs.List.{AllByRecursion}
 use Rattle.std.specs.Io.KnownBytes.{Appends}
 use Rattle.atspi_base.specs.Outside.{AppendsPart}
 use Rattle.atspi_tree_model.specs.declared.edit.Edit.{Edit}
@@ -15,6 +16,7 @@ use Rattle.atspi_trace.specs.Work.{Refusal, work_of}
 use Rattle.atspi_trace.specs.Due.{Begun, Lawful, refusal_at}
 use Rattle.atspi_trace_laws.specs.laws.NineLaws.{rows_due}
 use Rattle.atspi_trace_laws.specs.laws.Words.{added, held, live_tree}
+use Rattle.atspi_trace_played.specs.Turns.{IsUnspent}
 use Rattle.atspi_trace.specs.play.Playing.{Playing}
 use Rattle.atspi_trace.specs.play.Played as playing
 use Rattle.atspi_trace.specs.play.Played.{IsPlayed}
@@ -96,13 +98,14 @@ pub record IsRefusedOf (count seed : ℕ) : Type 0 where
   pub refused : refusal_at (lines ++ line ∷ []) trace ≡ Some why
 
 -- the world comes to its end at a line behind those of this trace, which is not refused; what it wrote up to there is
--- `more`, and all is the front of a lawful trace
+-- `more`, and all is the front of a lawful trace of which no message passes the last serial
 pub record IsBrokenOff (why : Halt) (lines : List Line) (line : Line) (trace more : List Entry) : Type 0 where
   pub now : Playing
   pub played : IsPlayed lines trace now
   pub accepted : playing.refused now line ≡ None
   pub breaks : BreaksOff why now (work_of now.world line) more
   pub begun : Begun (lines ++ line ∷ []) (trace ++ more)
+  pub unspent : AllByRecursion IsUnspent (trace ++ more)
   pub last : EndsWith why more
 
 -- THE WORLD COMES TO ITS END AT A LINE OF THE SCRIPT
@@ -115,7 +118,7 @@ pub record IsHaltedOf (why : Halt) (count seed : ℕ) : Type 0 where
   pub broken : IsBrokenOff why lines line trace more
 
 -- THE NUMBERS ARE THOSE OF A LAWFUL TRACE OF THE SCRIPT: its steps, its spoken lines, and the rows that the reader is
--- due to show of the application behind it. The registry is there behind it too.
+-- due to show of the application behind it. The registry is there behind it too, and no message passes the last serial.
 pub record AreOfScript (count seed steps nodes says : ℕ) : Type 0 where
   pub lines : List Line
   pub early : List Entry
@@ -124,6 +127,7 @@ pub record AreOfScript (count seed steps nodes says : ℕ) : Type 0 where
   pub drawn : AreDrawn seed count lines early state
   pub lawful : Lawful (lines ++ Drain ∷ []) (early ++ more)
   pub there : HasRegistry (lines ++ Drain ∷ []) (early ++ more)
+  pub unspent : AllByRecursion IsUnspent (early ++ more)
   pub steps_are : steps ≡ count_by is_step (early ++ more)
   pub nodes_are : nodes ≡ row_total (rows_due (early ++ more) 0 (held (early ++ more) 0 0))
   pub says_are : says ≡ count_by is_spoken (early ++ more)

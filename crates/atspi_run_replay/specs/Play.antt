@@ -5,7 +5,6 @@ use Rattle.atspi_base.specs.Outside.{AppendsPart}
 use Rattle.atspi_trace_texts.specs.declared.options.TraceOptions.{TraceOptions}
 use Rattle.atspi_run_replay.specs.declared.naming.Halt.{Halt}
 use Rattle.atspi_run_replay.specs.declared.naming.Refused as refused
-use Rattle.atspi_run_replay.specs.declared.naming.Stop.TheVariants.{Refused}
 use Rattle.atspi_run_replay.specs.Names.{refused_text}
 use Rattle.atspi_run_replay.specs.Told.{Told, told_text}
 use Rattle.atspi_run_replay.specs.Done.{IsHaltedBehind, IsLawfulOf, IsRefusedBehind, Upto}

@@ -246,6 +246,7 @@ fn what_came<A: Application, R: Follower>(world: &Stage<A, R>) -> Outcome
     ensures { (seed count : ℕ) → HasMade seed count (staged A.exporter R.follower world.now)
         → AreOfScript count seed result.steps result.nodes result.says }
 {
+    all_fit(world.trace());
     Outcome {
         steps: count_steps(world.trace()),
         nodes: world.row_count(0, 0),

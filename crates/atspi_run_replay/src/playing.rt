@@ -16,7 +16,7 @@ ghost use Rattle.atspi_run_replay.specs.inner.Play.{RefusedIn, StoppedAt};
 
 use crate::lines::next_line;
 use crate::naming::{Stop, stop_of_act, stop_of_line};
-use crate::serials::all_fit;
+use crate::serials::{all_fit, fit_from};
 use crate::telling::{finish, refuse, write_trace};
 use atspi_base::Sink;
 use atspi_script_lines::parse_line;
@@ -36,10 +36,14 @@ fn do_line<A: Application, R: Follower>(
     ensures line { DoesLine result bytes.now (staged A.exporter R.follower world.old)
         (staged A.exporter R.follower world.new) }
 {
+    let from = world.trace().len();
     match parse_line(alloc, bytes) {
         Err(fault) => Err(stop_of_line(fault)),
         Ok(line) => match world.act(&line) {
-            Ok(()) => Ok(()),
+            Ok(()) => {
+                fit_from(world.trace(), from);
+                Ok(())
+            }
             Err(fault) => {
                 all_fit(world.trace());
                 Err(stop_of_act(fault))

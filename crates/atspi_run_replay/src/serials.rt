@@ -1,6 +1,7 @@
-//! The serials of a trace have 32 bits. Their type says so, and a clause knows it of those that were read: so they are
-//! read where a world came to its end, once a run.
+//! The serials of a trace have 32 bits. Their type says so, and a clause knows it of those that were read: so those of
+//! each line are read behind it, and all of them where a world came to its end.
 
+ghost use Rattle.std.specs.Prelude.{drop};
 ghost use Rattle.std.specs.List.{AllByRecursion};
 ghost use Rattle.atspi_trace_played.specs.Turns.{IsUnspent};
 ghost use Rattle.atspi_trace.specs.Entry.{entries_of, entry_of};
@@ -34,5 +35,14 @@ pub(crate) fn all_fit(trace: &[Event])
 {
     for event in trace {
         fits(event);
+    }
+}
+
+/// Reads those of the messages that a trace tells as sent from a place on.
+pub(crate) fn fit_from(trace: &[Event], place: usize)
+    ensures { AllByRecursion IsUnspent (entries_of (drop place trace.now)) }
+{
+    if place < trace.len() {
+        all_fit(&trace[place..]);
     }
 }

@@ -6,7 +6,6 @@ use Rattle.atspi_tree.specs.TreeShape.{TreeShape, IsLawful}
 use Rattle.atspi_run_make.specs.Drawing.{live_nodes}
 use Rattle.atspi_run_make.specs.Live.{CanFollow}
 use Rattle.atspi_trace.specs.Entry.{Entry, entries_of}
-use Rattle.atspi_trace_laws.specs.laws.Words.{added}
 use Rattle.atspi_trace_laws.specs.order.Scripts.{CanAllStand}
 use Rattle.atspi_trace.specs.play.Playing.{Playing}
 use Rattle.atspi_trace.specs.play.Played.{IsPlayed}

@@ -1,5 +1,5 @@
 -- Words behind `Play` that only private contracts and proofs use.
-use Rattle.std.specs.Prelude.{◌≡◌, ◌⊎◌, ℕ, ◌≤◌, List, [], length, Option, Result, Ok, Err, MatchResult}
+use Rattle.std.specs.Prelude.{◌≡◌, ◌⊎◌, ℕ, ◌≤◌, List, [], drop, length, Option, Result, Ok, Err, MatchResult}
 use Rattle.std.specs.Io.KnownBytes.{Appends}
 use Rattle.std.specs.List.{AllByRecursion}
 use Rattle.atspi_base.specs.Outside.{Rose, AppendsPart}
@@ -62,9 +62,10 @@ StopsAs (Halted why) bytes old new = HaltedIn old new bytes why
 StopsAs NoMemory bytes old new = Unit {0}
 StopsAs Write bytes old new = ⊥
 
--- the bytes spell a line, and it was done
+-- the bytes spell a line, and it was done; the serials of what it added have 32 bits, by their type
 abbrev pub DidLine : List ℕ → Staged → Staged → Type 0
 DidLine bytes old new = (line : Line) × Spells line bytes × LineDone line old new
+    × AllByRecursion IsUnspent (entries_of (drop (length old.trace) new.trace))
 
 -- what doing a line answers: it was done, or stops the run
 abbrev pub DoesLine : {T : Type 0} → Result T Stop → List ℕ → Staged → Staged → Type 0

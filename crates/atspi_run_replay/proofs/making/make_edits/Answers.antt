@@ -1,4 +1,4 @@
-use Rattle.std.proofs.Common.{◌-◌, arith, subst, sym}
+use Rattle.std.proofs.Common.{arith, subst, sym}
 use Rattle.std.proofs.lemmas.Result.{IfErr-weaker, err_from_is_err_and, on_ok_weaker}
 use Rattle.atspi_run_replay.specs.inner.Made.{ScriptStops}
 use Rattle.atspi_run_replay.proofs.Script.{finished_at}

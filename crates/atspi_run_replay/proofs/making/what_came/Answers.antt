@@ -7,6 +7,6 @@ use Rattle.atspi_run_replay.proofs.making.what_came.Goals as goal
 
 pub returns : goal.returns
 returns g c seed count made =
-    let steps = c.count_steps.ensures ∙ ap (λ events. count_by (λ event. is_step (entry_of event)) events) c.trace.ensures in
-    let says = c.count_says.ensures ∙ ap (λ events. count_by (λ event. is_spoken (entry_of event)) events) c.trace-2.ensures in
-    came seed count _ made _ _ _ steps c.row_count.ensures says
+    let steps = c.count_steps.ensures ∙ ap (λ events. count_by (λ event. is_step (entry_of event)) events) c.trace-2.ensures in
+    let says = c.count_says.ensures ∙ ap (λ events. count_by (λ event. is_spoken (entry_of event)) events) c.trace-3.ensures in
+    came seed count _ made _ _ _ steps c.row_count.ensures says (rw c.trace.ensures at c.all_fit.ensures)
