@@ -1,0 +1,9 @@
+pub mod Course
+pub mod Ended
+pub mod Signed
+pub mod OwnLines
+pub mod Asking
+pub mod Starting
+pub mod Exporting
+pub mod Lines
+pub mod Few

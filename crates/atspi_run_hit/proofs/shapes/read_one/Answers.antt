@@ -1,0 +1,10 @@
+use Rattle.std.proofs.Common.{rules}
+use Rattle.atspi_script_lines.proofs.LeadLemmas.{not_end}
+use Rattle.atspi_script_lines.specs.Words.{number}
+use Rattle.atspi_run_hit.proofs.shapes.read_one.Goals as goal
+
+pub returns-in_default : goal.returns-in_default
+returns-in_default c = λ t s. c.in_default.ensures t s.0 s.1
+
+pub returns-then-not-is_empty : goal.returns-then-not-is_empty
+returns-then-not-is_empty c = λ t s. not_end (number c.in-Some.n) (number t) c.in-Some.rest.now c.args.bytes.now tt c.in-Some.ensures (search rules) s

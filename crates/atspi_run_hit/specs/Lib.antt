@@ -1,0 +1,7 @@
+pub mod inner
+pub mod Words
+pub mod Wholes
+pub mod Scene
+pub mod Told
+pub mod Names
+pub mod Run
