@@ -1,0 +1,6 @@
+use Rattle.std.proofs.Common.{rules}
+use Rattle.atspi_browse.proofs.WordLemmas.{no_grain}
+use Rattle.atspi_browse.proofs.words.next_grain.Goals as goal
+
+pub returns : goal.returns
+returns c = no_grain c.in-Some.word.now c.in-Some.rest.now c.args.bytes.now c.in-Some.ensures.0 c.in-Some.ensures.1 (search rules) (search rules) (search rules)

@@ -1,0 +1,5 @@
+pub mod inner
+pub mod UnitLine
+pub mod Cursor
+pub mod Fits
+pub mod Places
