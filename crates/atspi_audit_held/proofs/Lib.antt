@@ -1,0 +1,6 @@
+pub mod Lacked
+pub mod Collecting
+pub mod Telling
+pub mod Knowing
+pub mod Stepping
+pub mod Showing
