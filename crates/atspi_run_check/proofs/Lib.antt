@@ -1,2 +1,3 @@
 pub mod CheckLemmas
+pub mod Completing
 pub mod EndLemmas

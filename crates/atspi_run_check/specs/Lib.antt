@@ -1,4 +1,5 @@
 pub mod inner
 pub mod Causes
 pub mod Check
+pub mod Complete
 pub mod Laws

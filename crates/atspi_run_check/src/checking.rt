@@ -3,6 +3,7 @@
 ghost use Rattle.std.specs.Prelude.{◌≡◌, ◌≤◌, ◌-◌, [], length, IfOk, OnOk, OnErr, MatchResult};
 ghost use Rattle.atspi_run_check.specs.Check.{Checked};
 ghost use Rattle.atspi_run_check.specs.Causes.{Causes};
+ghost use Rattle.atspi_run_check.specs.Complete.{EndsAsDueOf, NoneFailed};
 ghost use Rattle.atspi_run_check.specs.inner.Taking.{BlamesLines, BlamesSink, BlamesSource, Ends, Shown, TakesIn, Told};
 ghost use Rattle.atspi_run_check.specs.inner.Taking.{ToldPart, halt_status};
 
@@ -172,6 +173,8 @@ pub fn check<S: Source, K: Sink>(alloc: Global, source: &mut S, sink: &mut K) ->
     ensures checked { Checked CHECK_LIMIT result (S.left source.old) (S.left source.new) (K.written sink.old)
         (K.written sink.new) }
     ensures causes { Causes result (S.faults source.old) (S.faults source.new) (K.faults sink.old) (K.faults sink.new) }
+    ensures complete { NoneFailed (S.faults source.old) (S.faults source.new)
+        → NoneFailed (K.faults sink.old) (K.faults sink.new) → EndsAsDueOf CHECK_LIMIT result (S.left source.old) }
 {
     check_stream(alloc, source, sink)
 }

@@ -1,2 +1,3 @@
 pub mod OfWords
 pub mod OfServing
+pub mod Completing

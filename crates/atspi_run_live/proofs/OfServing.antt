@@ -11,7 +11,7 @@ use Rattle.atspi_live_reader.specs.Following.{WritesPart}
 use Rattle.atspi_live_reader.specs.Runs as reader
 use Rattle.atspi_live_registry.specs.Runs as registry
 use Rattle.atspi_run_check.specs.Causes.{Causes}
-use Rattle.atspi_run_live.specs.inner.Statuses.{IsEndStatus, IsLiveStatus}
+use Rattle.atspi_run_live.specs.Statuses.{IsEndStatus, IsLiveStatus}
 
 four_or_five : (status : ℕ) → (status ≡ 4) ⊎ (status ≡ 5) → IsEndStatus status
 four_or_five status (inl e) = inr (inl e)

@@ -1,3 +1,4 @@
 pub mod Words
 pub mod Serves
-pub mod inner
+pub mod Complete
+pub mod Statuses

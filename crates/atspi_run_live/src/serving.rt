@@ -3,9 +3,11 @@
 ghost use Rattle.std.specs.Prelude.{◌≡◌, ◌≤◌, [], chars};
 ghost use Rattle.atspi_live_conversation.specs.Reports.{Begins};
 ghost use Rattle.atspi_run_check.specs.Causes.{Causes};
+ghost use Rattle.atspi_run_check.specs.Complete.{NoneFailed};
+ghost use Rattle.atspi_run_live.specs.Complete.{EndsWell, PeerDoes};
 ghost use Rattle.atspi_run_live.specs.Words.{IsPath};
 ghost use Rattle.atspi_run_live.specs.Serves.{ServesApp, ServesBus, ServesReader, ServesRegistry};
-ghost use Rattle.atspi_run_live.specs.inner.Statuses.{IsLiveStatus};
+ghost use Rattle.atspi_run_live.specs.Statuses.{IsLiveStatus};
 ghost use Rattle.atspi_run_live.specs.declared.words.Service.TheVariants as services;
 
 use crate::words::{Live, Service};
@@ -74,8 +76,8 @@ pub fn serve<S: Source, K: Sink, H: Host>(
     requires begins { Begins (H.calls host.old) }
     requires links { H.links host.old ≡ [] }
     ensures bus { live.entry.service ≡ services.Bus
-        → ServesBus (chars live.entry.path.now) live.entry.rounds result (H.calls host.old) (H.calls host.new) (H.faults host.old)
-        (H.faults host.new) × (K.written sink.new ≡ K.written sink.old) }
+        → ServesBus (chars live.entry.path.now) live.entry.rounds result (H.calls host.old) (H.calls host.new)
+        (H.faults host.old) (H.faults host.new) × (K.written sink.new ≡ K.written sink.old) }
     ensures registry { live.entry.service ≡ services.Registry
         → ServesRegistry (chars live.entry.path.now) live.entry.rounds result (H.links host.new) (H.calls host.new)
         (H.faults host.old) (H.faults host.new) (H.link_faults host.old) (H.link_faults host.new) (K.written sink.old)
@@ -92,6 +94,12 @@ pub fn serve<S: Source, K: Sink, H: Host>(
     ensures unread { (live.entry.service ≡ services.App → ⊥) → S.left source.new ≡ S.left source.old }
     ensures known { IsLiveStatus result }
     ensures causes { Causes result (S.faults source.old) (S.faults source.new) (K.faults sink.old) (K.faults sink.new) }
+    ensures complete { (live.entry.service ≡ services.Bus → ⊥) → (live.entry.service ≡ services.App → ⊥)
+        → NoneFailed (K.faults sink.old) (K.faults sink.new) → NoneFailed (H.faults host.old) (H.faults host.new)
+        → NoneFailed (H.link_faults host.old) (H.link_faults host.new)
+        → PeerDoes (H.links host.new) live.entry.rounds (H.calls host.new) → EndsWell 0 result }
+    ensures bus_complete { live.entry.service ≡ services.Bus → NoneFailed (H.faults host.old) (H.faults host.new)
+        → EndsWell 8 result }
 {
     let Ok(path) = Text::of(alloc, live.path) else {
         return 5;
