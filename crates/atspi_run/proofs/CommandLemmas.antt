@@ -1,10 +1,12 @@
 -- What each command does, as the top call says it.
-use Rattle.std.proofs.Common.{◌≡◌, ◌⊎◌, ◌≤◌, ◌<◌, ℕ, List, [], ◌∷◌, Option, subst, sym, arith, inl, inr}
+use Rattle.std.proofs.Common.{◌≡◌, ◌⊎◌, ◌<◌, ℕ, List, [], ◌∷◌, Option, subst, arith, inl, inr}
 use Rattle.atspi_trace_texts.specs.declared.options.TraceOptions.{TraceOptions}
 use Rattle.atspi_run_check.specs.Causes as check
 use Rattle.atspi_run_check.specs.Check.{Checked, IsCheckStatus}
+use Rattle.atspi_run_hit.specs.Run.{HitDone, IsHitStatus}
+use Rattle.atspi_run_input.specs.Causes as input
 use Rattle.atspi_run_replay.specs.Causes.{Causes}
-use Rattle.atspi_run_replay.specs.Made.{IsHalt, IsMakeStatus, Made}
+use Rattle.atspi_run_replay.specs.Made.{IsMakeStatus, Made}
 use Rattle.atspi_run_replay.specs.Run.{IsReplayStatus, Replayed}
 use Rattle.atspi_run.specs.Words.{IsMake, IsReplay}
 use Rattle.atspi_run.proofs.WordLemmas.{same_numbers, same_options}
@@ -71,6 +73,28 @@ check_status status (inr (inr (inr (inr (inr e))))) two = absurd (omega (arith, 
 
 pub check_is_not_2 : (limit status : ℕ) (left left' w w' : Option (List ℕ)) → Checked limit status left left' w w' → status ≡ 2 → ⊥
 check_is_not_2 limit status left left' w w' c two = check_status status c.known two
+
+-- the same of `hit`
+pub causes_of_hit : (status a b c d : ℕ) → input.Causes status a b c d → Causes status a b c d
+causes_of_hit status a b c d h = record {
+  source_later = h.source_later;
+  sink_later = h.sink_later;
+  read = h.read;
+  write = h.write;
+  sink_first = h.sink_first;
+  source_next = h.source_next;
+}
+
+hit_status : (status : ℕ) → IsHitStatus status → status ≡ 2 → ⊥
+hit_status status (inl e) two = absurd (omega (arith, e, two))
+hit_status status (inr (inl e)) two = absurd (omega (arith, e, two))
+hit_status status (inr (inr (inl e))) two = absurd (omega (arith, e, two))
+hit_status status (inr (inr (inr (inl e)))) two = absurd (omega (arith, e, two))
+hit_status status (inr (inr (inr (inr (inl e))))) two = absurd (omega (arith, e, two))
+hit_status status (inr (inr (inr (inr (inr e))))) two = absurd (omega (arith, e, two))
+
+pub hit_is_not_2 : (limit status : ℕ) (left left' w w' : Option (List ℕ)) → HitDone limit status left left' w w' → status ≡ 2 → ⊥
+hit_is_not_2 limit status left left' w w' h two = hit_status status h.known two
 
 -- the numbers of a script that is to be made
 pub few_asked : (words : List (List ℕ)) (count seed : ℕ) → IsMake words count seed → (count < 4294967295) × (seed < 2147483648)

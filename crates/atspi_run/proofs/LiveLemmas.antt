@@ -7,7 +7,7 @@ use Rattle.atspi_run_live.specs.declared.words.Service.TheVariants.{Bus, Registr
 use Rattle.atspi_run_live.proofs.OfWords.{live_is, same_live}
 use Rattle.atspi_run.specs.declared.words.Task.{Task}
 use Rattle.atspi_run.specs.declared.words.Task.TheVariants.{Replay, Make}
-use Rattle.atspi_run.specs.Words.{Asks, IsCheck, IsMake, IsReplay, IsTask}
+use Rattle.atspi_run.specs.Words.{Asks, IsCheck, IsHit, IsMake, IsReplay, IsTask}
 use Rattle.atspi_run.proofs.WordLemmas.{make_is}
 
 -- how long the first word is, and its first letter
@@ -55,12 +55,16 @@ three words service path rounds is = let l = live_is words service path rounds i
 pub not_check_and_live : (words : List (List ℕ)) (service : Service) (path : List ℕ) (rounds : ℕ) → IsCheck words → IsLive words service path rounds → ⊥
 not_check_and_live words service path rounds c is = let one : length words ≡ 1 = ap length c in omega (arith, one, three words service path rounds is)
 
+pub not_hit_and_live : (words : List (List ℕ)) (service : Service) (path : List ℕ) (rounds : ℕ) → IsHit words → IsLive words service path rounds → ⊥
+not_hit_and_live words service path rounds h is = let one : length words ≡ 1 = ap length h in omega (arith, one, three words service path rounds is)
+
 few : (words : List (List ℕ)) (text : List ℕ) → Asks words text → (n : ℕ) → length words ≡ n → n ≡ 3 → ⊥
 few words text (inl (e, t)) n is three = let one : length words ≡ 1 = ap length e in omega (arith, one, is, three)
 few words text (inr (inl (e, t))) n is three = let one : length words ≡ 1 = ap length e in omega (arith, one, is, three)
 few words text (inr (inr (inl (e, t)))) n is three = let two : length words ≡ 2 = ap length e in omega (arith, two, is, three)
 few words text (inr (inr (inr (inl (e, t))))) n is three = let two : length words ≡ 2 = ap length e in omega (arith, two, is, three)
-few words text (inr (inr (inr (inr (e, t))))) n is three = let two : length words ≡ 2 = ap length e in omega (arith, two, is, three)
+few words text (inr (inr (inr (inr (inl (e, t)))))) n is three = let two : length words ≡ 2 = ap length e in omega (arith, two, is, three)
+few words text (inr (inr (inr (inr (inr (e, t)))))) n is three = let two : length words ≡ 2 = ap length e in omega (arith, two, is, three)
 
 pub not_told_and_live : (words : List (List ℕ)) (text : List ℕ) (service : Service) (path : List ℕ) (rounds : ℕ) → Asks words text → IsLive words service path rounds → ⊥
 not_told_and_live words text service path rounds asks is = few words text asks (length words) refl (three words service path rounds is)

@@ -1,17 +1,19 @@
 -- What is asked for in a world, and what the top call says of it.
-use Rattle.std.proofs.Common.{◌≡◌, ℕ, List, Option, inl, inr, refl}
+use Rattle.std.proofs.Common.{◌≡◌, ℕ, List, Option, inl, inr}
 use Rattle.atspi_trace_texts.specs.declared.options.TraceOptions.{TraceOptions}
 use Rattle.atspi_run_replay.specs.declared.naming.Stop.TheVariants.{NoMemory}
 use Rattle.atspi_run_replay.specs.Made.{Made}
+use Rattle.atspi_run_replay.specs.Play.{Played, PlayedHalted, PlayedPart, PlayedRefused}
 use Rattle.atspi_run_replay.specs.Run.{Replayed}
 use Rattle.atspi_run_replay.proofs.MadeLemmas.{made_stop}
+use Rattle.atspi_run_replay.proofs.PlayLemmas.{played_nothing}
 use Rattle.atspi_run_replay.proofs.RunLemmas.{replayed_nothing}
 use Rattle.atspi_run.specs.declared.words.Task.{Task}
 use Rattle.atspi_run.specs.declared.words.Task.TheVariants.{Replay, Make}
 use Rattle.atspi_run.specs.inner.Tasks.{DoesTask, MayDo}
-use Rattle.atspi_run.specs.Words.{Asks, IsCheck, IsCommand, IsMake, IsReplay, IsTask}
+use Rattle.atspi_run.specs.Words.{Asks, IsCheck, IsCommand, IsHit, IsMake, IsReplay, IsTask}
 use Rattle.atspi_run.proofs.CommandLemmas.{few_asked, made_as_asked, make_is_not_2, replay_is_not_2, replayed_as_asked}
-use Rattle.atspi_run.proofs.WordLemmas.{make_is_not_told, not_make_and_check, not_replay_and_check, not_replay_and_make, replay_is_not_told}
+use Rattle.atspi_run.proofs.WordLemmas.{make_is_not_told, not_make_and_check, not_make_and_hit, not_replay_and_check, not_replay_and_hit, not_replay_and_make, replay_is_not_told}
 
 pub may_do : (words : List (List ℕ)) (task : Task) → IsTask words task → MayDo task
 may_do words (Replay options) is = tt
@@ -19,7 +21,9 @@ may_do words (Make script) is = few_asked words script.count script.seed is
 
 -- want of memory before a world stands
 pub gave_up : (task : Task) (left w : Option (List ℕ)) → DoesTask task 5 left left w w
-gave_up (Replay options) left w = replayed_nothing options left left w
+gave_up (Replay options) left w =
+    replayed_nothing (λ lines. Played options lines w w) (λ lines. PlayedRefused options lines w w) (λ lines. PlayedPart options lines w w) (λ why lines. PlayedHalted options why lines w w) left left
+    (λ lines. played_nothing options lines w)
 gave_up (Make script) left w = made_stop script.count script.seed NoMemory w tt
 
 pub task_replayed : (words : List (List ℕ)) (task : Task) (status : ℕ) (left left' w w' : Option (List ℕ)) → IsTask words task → DoesTask task status left left' w w' → (asked : TraceOptions) → IsReplay words asked
@@ -35,6 +39,10 @@ task_made words (Make script) status left left' w w' is did count seed also = ma
 pub task_is_not_check : (words : List (List ℕ)) (task : Task) → IsTask words task → IsCheck words → ⊥
 task_is_not_check words (Replay options) is also = not_replay_and_check words options is also
 task_is_not_check words (Make script) is also = not_make_and_check words script.count script.seed is also
+
+pub task_is_not_hit : (words : List (List ℕ)) (task : Task) → IsTask words task → IsHit words → ⊥
+task_is_not_hit words (Replay options) is also = not_replay_and_hit words options is also
+task_is_not_hit words (Make script) is also = not_make_and_hit words script.count script.seed is also
 
 pub task_is_not_told : (words : List (List ℕ)) (task : Task) (text : List ℕ) → IsTask words task → Asks words text → ⊥
 task_is_not_told words (Replay options) text is asks = replay_is_not_told words text options is asks

@@ -1,5 +1,5 @@
 -- What words ask for, and what is written then.
-use Rattle.std.proofs.Common.{Bool, true, false, IsTrue, ◌≡◌, ◌≤◌, ◌<◌, ℕ, length, get_or, map, string_bytes, String, Global, Some, None, List, [], ◌∷◌, ◌++◌, ap, sym, ◌∙◌, inl, inr, Option, Result, Ok, Err, subst, arith, refl}
+use Rattle.std.proofs.Common.{Bool, true, false, IsTrue, ◌≡◌, ◌<◌, ℕ, get_or, Some, None, List, [], ◌∷◌, ◌++◌, ap, sym, ◌∙◌, inl, inr, Option, Result, Ok, Err, subst, arith, refl}
 use Rattle.std.proofs.lemmas.Bool.{false≢true}
 use Rattle.std.proofs.lemmas.Fmt.{decimal_injective}
 use Rattle.std.specs.Prelude.{codes, OnOk, OnErr, MatchOption, MatchResult}
@@ -12,7 +12,7 @@ use Rattle.atspi_run_live.specs.declared.words.Service.{Service}
 use Rattle.atspi_run.specs.declared.words.Script.{Script}
 use Rattle.atspi_run.specs.declared.words.Task.{Task}
 use Rattle.atspi_run.specs.declared.words.Task.TheVariants.{Replay, Make}
-use Rattle.atspi_run.specs.Words.{AreOf, Asks, IsAllowed, IsCheck, IsCommand, IsMade, IsMake, IsReplay, IsReplayed, IsTask, IsTold, Tells, check_help, help, make_help, replay_help, version, word_if}
+use Rattle.atspi_run.specs.Words.{AreOf, Asks, IsAllowed, IsCheck, IsCommand, IsHit, IsMake, IsReplay, IsTask, IsTold, Tells, check_help, help, hit_help, make_help, replay_help, version, word_if}
 
 -- what a test that failed says
 pub not_if : {P : Type 0} (r : Bool) → r ≡ false → (P → IsTrue r) → P → ⊥
@@ -29,44 +29,58 @@ asks_replay_help words text w (inl (e, t)) = let both = sym w ∙ e in absurd cc
 asks_replay_help words text w (inr (inl (e, t))) = let both = sym w ∙ e in absurd cc
 asks_replay_help words text w (inr (inr (inl (e, t)))) = t
 asks_replay_help words text w (inr (inr (inr (inl (e, t))))) = let both = sym w ∙ e in absurd cc
-asks_replay_help words text w (inr (inr (inr (inr (e, t))))) = let both = sym w ∙ e in absurd cc
+asks_replay_help words text w (inr (inr (inr (inr (inl (e, t)))))) = let both = sym w ∙ e in absurd cc
+asks_replay_help words text w (inr (inr (inr (inr (inr (e, t)))))) = let both = sym w ∙ e in absurd cc
 
 pub asks_make_help : (words : List (List ℕ)) (text : List ℕ) → words ≡ codes "make" ∷ codes "--help" ∷ [] → Asks words text → text ≡ make_help
 asks_make_help words text w (inl (e, t)) = let both = sym w ∙ e in absurd cc
 asks_make_help words text w (inr (inl (e, t))) = let both = sym w ∙ e in absurd cc
 asks_make_help words text w (inr (inr (inl (e, t)))) = let both = sym w ∙ e in absurd cc
 asks_make_help words text w (inr (inr (inr (inl (e, t))))) = t
-asks_make_help words text w (inr (inr (inr (inr (e, t))))) = let both = sym w ∙ e in absurd cc
+asks_make_help words text w (inr (inr (inr (inr (inl (e, t)))))) = let both = sym w ∙ e in absurd cc
+asks_make_help words text w (inr (inr (inr (inr (inr (e, t)))))) = let both = sym w ∙ e in absurd cc
 
 pub asks_help : (words : List (List ℕ)) (text : List ℕ) → words ≡ codes "--help" ∷ [] → Asks words text → text ≡ help
 asks_help words text w (inl (e, t)) = t
 asks_help words text w (inr (inl (e, t))) = let both = sym w ∙ e in absurd cc
 asks_help words text w (inr (inr (inl (e, t)))) = let both = sym w ∙ e in absurd cc
 asks_help words text w (inr (inr (inr (inl (e, t))))) = let both = sym w ∙ e in absurd cc
-asks_help words text w (inr (inr (inr (inr (e, t))))) = let both = sym w ∙ e in absurd cc
+asks_help words text w (inr (inr (inr (inr (inl (e, t)))))) = let both = sym w ∙ e in absurd cc
+asks_help words text w (inr (inr (inr (inr (inr (e, t)))))) = let both = sym w ∙ e in absurd cc
 
 pub asks_version : (words : List (List ℕ)) (text : List ℕ) → words ≡ codes "--version" ∷ [] → Asks words text → text ≡ version
 asks_version words text w (inl (e, t)) = let both = sym w ∙ e in absurd cc
 asks_version words text w (inr (inl (e, t))) = t
 asks_version words text w (inr (inr (inl (e, t)))) = let both = sym w ∙ e in absurd cc
 asks_version words text w (inr (inr (inr (inl (e, t))))) = let both = sym w ∙ e in absurd cc
-asks_version words text w (inr (inr (inr (inr (e, t))))) = let both = sym w ∙ e in absurd cc
+asks_version words text w (inr (inr (inr (inr (inl (e, t)))))) = let both = sym w ∙ e in absurd cc
+asks_version words text w (inr (inr (inr (inr (inr (e, t)))))) = let both = sym w ∙ e in absurd cc
 
 pub asks_check_help : (words : List (List ℕ)) (text : List ℕ) → words ≡ codes "check" ∷ codes "--help" ∷ [] → Asks words text → text ≡ check_help
 asks_check_help words text w (inl (e, t)) = let both = sym w ∙ e in absurd cc
 asks_check_help words text w (inr (inl (e, t))) = let both = sym w ∙ e in absurd cc
 asks_check_help words text w (inr (inr (inl (e, t)))) = let both = sym w ∙ e in absurd cc
 asks_check_help words text w (inr (inr (inr (inl (e, t))))) = let both = sym w ∙ e in absurd cc
-asks_check_help words text w (inr (inr (inr (inr (e, t))))) = t
+asks_check_help words text w (inr (inr (inr (inr (inl (e, t)))))) = t
+asks_check_help words text w (inr (inr (inr (inr (inr (e, t)))))) = let both = sym w ∙ e in absurd cc
+
+pub asks_hit_help : (words : List (List ℕ)) (text : List ℕ) → words ≡ codes "hit" ∷ codes "--help" ∷ [] → Asks words text → text ≡ hit_help
+asks_hit_help words text w (inl (e, t)) = let both = sym w ∙ e in absurd cc
+asks_hit_help words text w (inr (inl (e, t))) = let both = sym w ∙ e in absurd cc
+asks_hit_help words text w (inr (inr (inl (e, t)))) = let both = sym w ∙ e in absurd cc
+asks_hit_help words text w (inr (inr (inr (inl (e, t))))) = let both = sym w ∙ e in absurd cc
+asks_hit_help words text w (inr (inr (inr (inr (inl (e, t)))))) = let both = sym w ∙ e in absurd cc
+asks_hit_help words text w (inr (inr (inr (inr (inr (e, t)))))) = t
 
 -- words that are none of these ask for no text
 pub none_asked : (words : List (List ℕ)) (text : List ℕ) → (words ≡ codes "--help" ∷ [] → ⊥) → (words ≡ codes "--version" ∷ [] → ⊥) → (words ≡ codes "replay" ∷ codes "--help" ∷ [] → ⊥)
-    → (words ≡ codes "make" ∷ codes "--help" ∷ [] → ⊥) → (words ≡ codes "check" ∷ codes "--help" ∷ [] → ⊥) → Asks words text → ⊥
-none_asked words text a b c d f (inl (e, t)) = a e
-none_asked words text a b c d f (inr (inl (e, t))) = b e
-none_asked words text a b c d f (inr (inr (inl (e, t)))) = c e
-none_asked words text a b c d f (inr (inr (inr (inl (e, t))))) = d e
-none_asked words text a b c d f (inr (inr (inr (inr (e, t))))) = f e
+    → (words ≡ codes "make" ∷ codes "--help" ∷ [] → ⊥) → (words ≡ codes "check" ∷ codes "--help" ∷ [] → ⊥) → (words ≡ codes "hit" ∷ codes "--help" ∷ [] → ⊥) → Asks words text → ⊥
+none_asked words text a b c d f h (inl (e, t)) = a e
+none_asked words text a b c d f h (inr (inl (e, t))) = b e
+none_asked words text a b c d f h (inr (inr (inl (e, t)))) = c e
+none_asked words text a b c d f h (inr (inr (inr (inl (e, t))))) = d e
+none_asked words text a b c d f h (inr (inr (inr (inr (inl (e, t)))))) = f e
+none_asked words text a b c d f h (inr (inr (inr (inr (inr (e, t)))))) = h e
 
 -- words that are none of the four choices ask for no replay
 pub no_choice : (words : List (List ℕ)) → (words ≡ codes "replay" ∷ [] → ⊥) → (words ≡ codes "replay" ∷ codes "--brief" ∷ [] → ⊥) → (words ≡ codes "replay" ∷ codes "--wire" ∷ [] → ⊥)
@@ -99,6 +113,9 @@ replay_not_make ws vs e = let letters : 114 ≡ 109 = ap first_letter e in absur
 replay_not_check : (ws vs : List (List ℕ)) → codes "replay" ∷ ws ≡ codes "check" ∷ vs → ⊥
 replay_not_check ws vs e = let letters : 114 ≡ 99 = ap first_letter e in absurd (omega (arith, letters))
 
+replay_not_hit : (ws vs : List (List ℕ)) → codes "replay" ∷ ws ≡ codes "hit" ∷ vs → ⊥
+replay_not_hit ws vs e = let letters : 114 ≡ 104 = ap first_letter e in absurd (omega (arith, letters))
+
 wire_not_help : codes "replay" ∷ codes "--wire" ∷ [] ≡ codes "replay" ∷ codes "--help" ∷ [] → ⊥
 wire_not_help e = let letters : 119 ≡ 104 = ap third_of_second e in absurd (omega (arith, letters))
 
@@ -111,7 +128,8 @@ choice_is_not_told words text true false w (inr (inr (inl (e, t)))) = let both =
 choice_is_not_told words text false true w (inr (inr (inl (e, t)))) = wire_not_help (sym w ∙ e)
 choice_is_not_told words text true true w (inr (inr (inl (e, t)))) = let both = sym w ∙ e in absurd cc
 choice_is_not_told words text brief wire w (inr (inr (inr (inl (e, t))))) = replay_not_make _ _ (sym w ∙ e)
-choice_is_not_told words text brief wire w (inr (inr (inr (inr (e, t))))) = replay_not_check _ _ (sym w ∙ e)
+choice_is_not_told words text brief wire w (inr (inr (inr (inr (inl (e, t)))))) = replay_not_check _ _ (sym w ∙ e)
+choice_is_not_told words text brief wire w (inr (inr (inr (inr (inr (e, t)))))) = replay_not_hit _ _ (sym w ∙ e)
 
 pub replay_is_not_told : (words : List (List ℕ)) (text : List ℕ) (options : TraceOptions) → IsReplay words options → Asks words text → ⊥
 replay_is_not_told words text options w a = choice_is_not_told words text options.brief options.wire w a
@@ -121,7 +139,16 @@ check_is_not_told words text w (inl (e, t)) = let both = sym w ∙ e in absurd c
 check_is_not_told words text w (inr (inl (e, t))) = let both = sym w ∙ e in absurd cc
 check_is_not_told words text w (inr (inr (inl (e, t)))) = let both = sym w ∙ e in absurd cc
 check_is_not_told words text w (inr (inr (inr (inl (e, t))))) = let both = sym w ∙ e in absurd cc
-check_is_not_told words text w (inr (inr (inr (inr (e, t))))) = let both = sym w ∙ e in absurd cc
+check_is_not_told words text w (inr (inr (inr (inr (inl (e, t)))))) = let both = sym w ∙ e in absurd cc
+check_is_not_told words text w (inr (inr (inr (inr (inr (e, t)))))) = let both = sym w ∙ e in absurd cc
+
+pub hit_is_not_told : (words : List (List ℕ)) (text : List ℕ) → IsHit words → Asks words text → ⊥
+hit_is_not_told words text w (inl (e, t)) = let both = sym w ∙ e in absurd cc
+hit_is_not_told words text w (inr (inl (e, t))) = let both = sym w ∙ e in absurd cc
+hit_is_not_told words text w (inr (inr (inl (e, t)))) = let both = sym w ∙ e in absurd cc
+hit_is_not_told words text w (inr (inr (inr (inl (e, t))))) = let both = sym w ∙ e in absurd cc
+hit_is_not_told words text w (inr (inr (inr (inr (inl (e, t)))))) = let both = sym w ∙ e in absurd cc
+hit_is_not_told words text w (inr (inr (inr (inr (inr (e, t)))))) = let both = sym w ∙ e in absurd cc
 
 -- the words of `make` are three, and begin with it
 pub make_is : (words : List (List ℕ)) (count seed : ℕ) → IsMake words count seed → (first : List ℕ) × (second : List ℕ) × (words ≡ codes "make" ∷ first ∷ second ∷ [])
@@ -139,11 +166,21 @@ make_is_not_told words text count seed is a = by (make_is words count seed is) a
     by m (inr (inl (e, t))) = let both = sym m.2 ∙ e in absurd cc
     by m (inr (inr (inl (e, t)))) = let both = sym m.2 ∙ e in absurd cc
     by m (inr (inr (inr (inl (e, t))))) = let both = sym m.2 ∙ e in absurd cc
-    by m (inr (inr (inr (inr (e, t))))) = let both = sym m.2 ∙ e in absurd cc
+    by m (inr (inr (inr (inr (inl (e, t)))))) = let both = sym m.2 ∙ e in absurd cc
+    by m (inr (inr (inr (inr (inr (e, t)))))) = let both = sym m.2 ∙ e in absurd cc
 
 -- no words are those of two commands
 pub not_replay_and_check : (words : List (List ℕ)) (options : TraceOptions) → IsReplay words options → IsCheck words → ⊥
 not_replay_and_check words options r c = replay_not_check _ _ (sym r ∙ c)
+
+pub not_replay_and_hit : (words : List (List ℕ)) (options : TraceOptions) → IsReplay words options → IsHit words → ⊥
+not_replay_and_hit words options r h = replay_not_hit _ _ (sym r ∙ h)
+
+pub not_check_and_hit : (words : List (List ℕ)) → IsCheck words → IsHit words → ⊥
+not_check_and_hit words c h = let both = sym c ∙ h in absurd cc
+
+pub not_make_and_hit : (words : List (List ℕ)) (count seed : ℕ) → IsMake words count seed → IsHit words → ⊥
+not_make_and_hit words count seed is h = let m = make_is words count seed is in let both = sym m.2 ∙ h in absurd cc
 
 pub not_replay_and_make : (words : List (List ℕ)) (options : TraceOptions) (count seed : ℕ) → IsReplay words options → IsMake words count seed → ⊥
 not_replay_and_make words options count seed r is = let m = make_is words count seed is in replay_not_make _ _ (sym r ∙ m.2)
@@ -197,12 +234,13 @@ told_is_not_2 status words w w' tell is told = told_or_4 status told.0 w w' (tel
 
 -- status 2 comes for the words of no command
 pub no_command : (status : ℕ) (words : List (List ℕ)) (w w' : Option (List ℕ)) → ((options : TraceOptions) → IsReplay words options → ⊥) → ((count seed : ℕ) → IsMake words count seed → ⊥) → (IsCheck words → ⊥)
-    → ((service : Service) (path : List ℕ) (rounds : ℕ) → IsLive words service path rounds → ⊥) → ((text : List ℕ) → Asks words text → Tells 0 text status w w') → status ≡ 2 → IsCommand words → ⊥
-no_command status words w w' r m c l tell is (inl replay) = r replay.0 replay.1
-no_command status words w w' r m c l tell is (inr (inl made)) = m made.0 made.1 made.2
-no_command status words w w' r m c l tell is (inr (inr (inl check))) = c check
-no_command status words w w' r m c l tell is (inr (inr (inr (inl told)))) = told_is_not_2 status words w w' tell is told
-no_command status words w w' r m c l tell is (inr (inr (inr (inr live)))) = l live.0 live.1 live.2 live.3
+    → ((service : Service) (path : List ℕ) (rounds : ℕ) → IsLive words service path rounds → ⊥) → (IsHit words → ⊥) → ((text : List ℕ) → Asks words text → Tells 0 text status w w') → status ≡ 2 → IsCommand words → ⊥
+no_command status words w w' r m c l h tell is (inl replay) = r replay.0 replay.1
+no_command status words w w' r m c l h tell is (inr (inl made)) = m made.0 made.1 made.2
+no_command status words w w' r m c l h tell is (inr (inr (inl check))) = c check
+no_command status words w w' r m c l h tell is (inr (inr (inr (inl told)))) = told_is_not_2 status words w w' tell is told
+no_command status words w w' r m c l h tell is (inr (inr (inr (inr (inl live))))) = l live.0 live.1 live.2 live.3
+no_command status words w w' r m c l h tell is (inr (inr (inr (inr (inr hit))))) = h hit
 
 -- the numbers of `make`, by its words
 pub asked : (r : Option Script) (words : List (List ℕ)) (first second : List ℕ) → words ≡ codes "make" ∷ first ∷ second ∷ []

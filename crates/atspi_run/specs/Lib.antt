@@ -1,2 +1,3 @@
 pub mod inner
 pub mod Words
+pub mod Complete

@@ -26,6 +26,8 @@ help =
     ∷ codes "atspi make --help                its limits, and its statuses"
     ∷ codes "atspi check                      D-Bus messages on standard input: a line for each, or the first fault"
     ∷ codes "atspi check --help               the lines that check writes, and its statuses"
+    ∷ codes "atspi hit                        edits and rectangles on standard input: points, cells and relations"
+    ∷ codes "atspi hit --help                 the lines that hit reads, and its statuses"
     ∷ codes "atspi bus PATH ROUNDS            a message bus on the Unix socket PATH, for so many rounds"
     ∷ codes "atspi registry PATH ROUNDS       the registry of accessible applications, on the bus at PATH"
     ∷ codes "atspi app PATH ROUNDS            an application there, which does the lines on standard input"
@@ -110,6 +112,32 @@ check_help =
     ∷ codes "input ends inside one (reason 36). 8: the input is longer than its limit."
     ∷ [])
 
+-- for `hit --help`
+abbrev pub hit_help : List ℕ
+hit_help =
+    text_of
+    (codes "atspi hit"
+    ∷ codes "Does edits of an application's tree, and tells which node is at a point, where nodes stand, which cell is"
+    ∷ codes "beside a cell, and what relations name. The first line that is no comment is `app Q`."
+    ∷ codes ""
+    ∷ codes "app Q                  the application starts, with the name of its root"
+    ∷ codes "insert P I ROLE Q      an edit of a script (atspi replay --help), without the words `edit A`"
+    ∷ codes "place N X Y W H        node N stands in this rectangle from now on"
+    ∷ codes "extents N              where N stands, as the reply of Component that an application gives"
+    ∷ codes "inside N X Y           whether the point is in N's rectangle, in the same way"
+    ∷ codes "point N X Y            which node is at the point, of N and those below it, in the same way"
+    ∷ codes "cell N I WAY           cell M: the node beside cell I of table N; WAY is up, down, left or right"
+    ∷ codes "follow N K             follow M ..: the targets of N's relation of kind K, 1 to 18"
+    ∷ codes "# TEXT                 nothing; so does an empty line"
+    ∷ codes ""
+    ∷ codes "X and Y may begin with `-`. Of a rectangle they are -1000000 to 1000000, W and H 0 to 1000000. The input"
+    ∷ codes "has at most 16777216 bytes, and a line 65536."
+    ∷ codes ""
+    ∷ codes "Status 0: all lines were done. 1: a line is refused, which `refused LINE WHY` tells. 3: reading failed,"
+    ∷ codes "behind whole lines that were done. 4: writing failed. 5: no memory is left. 8: the input is longer than"
+    ∷ codes "its limit, and the whole lines inside it were done."
+    ∷ [])
+
 -- what is written where the words ask for nothing
 abbrev pub usage : List ℕ
 usage = text_of (codes "usage: atspi replay, check, make, bus, registry, app or read" ∷ [])
@@ -152,6 +180,10 @@ IsTask words (Make script) = IsMake words script.count script.seed
 abbrev pub IsCheck : List (List ℕ) → Type 0
 IsCheck words = words ≡ codes "check" ∷ []
 
+-- the words are `hit` alone
+abbrev pub IsHit : List (List ℕ) → Type 0
+IsHit words = words ≡ codes "hit" ∷ []
+
 -- the words ask for this text
 abbrev pub Asks : List (List ℕ) → List ℕ → Type 0
 Asks words text =
@@ -159,7 +191,8 @@ Asks words text =
     ⊎ (((words ≡ codes "--version" ∷ []) × (text ≡ version))
     ⊎ (((words ≡ codes "replay" ∷ codes "--help" ∷ []) × (text ≡ replay_help))
     ⊎ (((words ≡ codes "make" ∷ codes "--help" ∷ []) × (text ≡ make_help))
-    ⊎ ((words ≡ codes "check" ∷ codes "--help" ∷ []) × (text ≡ check_help)))))
+    ⊎ (((words ≡ codes "check" ∷ codes "--help" ∷ []) × (text ≡ check_help))
+    ⊎ ((words ≡ codes "hit" ∷ codes "--help" ∷ []) × (text ≡ hit_help))))))
 
 -- the words ask for some text
 abbrev pub IsTold : List (List ℕ) → Type 0
@@ -178,7 +211,8 @@ IsLiveCommand words = (service : Service) × (path : List ℕ) × (rounds : ℕ)
 
 -- the words are those of a command
 abbrev pub IsCommand : List (List ℕ) → Type 0
-IsCommand words = IsReplayed words ⊎ (IsMade words ⊎ (IsCheck words ⊎ (IsTold words ⊎ IsLiveCommand words)))
+IsCommand words =
+    IsReplayed words ⊎ (IsMade words ⊎ (IsCheck words ⊎ (IsTold words ⊎ (IsLiveCommand words ⊎ IsHit words))))
 
 -- the text was written, and the status is the one that is due; or a front of it was, and the status is 4
 abbrev pub Tells : ℕ → List ℕ → ℕ → Option (List ℕ) → Option (List ℕ) → Type 0

@@ -23,6 +23,8 @@ atspi make N SEED                a script of N edits is drawn and done: a line o
 atspi make --help                its limits, and its statuses\n\
 atspi check                      D-Bus messages on standard input: a line for each, or the first fault\n\
 atspi check --help               the lines that check writes, and its statuses\n\
+atspi hit                        edits and rectangles on standard input: points, cells and relations\n\
+atspi hit --help                 the lines that hit reads, and its statuses\n\
 atspi bus PATH ROUNDS            a message bus on the Unix socket PATH, for so many rounds\n\
 atspi registry PATH ROUNDS       the registry of accessible applications, on the bus at PATH\n\
 atspi app PATH ROUNDS            an application there, which does the lines on standard input\n\
@@ -92,6 +94,28 @@ The input has at most 1073741824 bytes.\n\
 Status 0: the input was read to its end, and is whole messages. 3: reading failed, behind whole\n\
 messages that were told. 4: writing failed. 5: no memory is left. 6: a message is malformed, or the\n\
 input ends inside one (reason 36). 8: the input is longer than its limit.\n";
+
+/// What `hit --help` writes: its lines and its statuses.
+const HIT_HELP: &[u8] = b"atspi hit\n\
+Does edits of an application's tree, and tells which node is at a point, where nodes stand, which cell is\n\
+beside a cell, and what relations name. The first line that is no comment is `app Q`.\n\
+\n\
+app Q                  the application starts, with the name of its root\n\
+insert P I ROLE Q      an edit of a script (atspi replay --help), without the words `edit A`\n\
+place N X Y W H        node N stands in this rectangle from now on\n\
+extents N              where N stands, as the reply of Component that an application gives\n\
+inside N X Y           whether the point is in N's rectangle, in the same way\n\
+point N X Y            which node is at the point, of N and those below it, in the same way\n\
+cell N I WAY           cell M: the node beside cell I of table N; WAY is up, down, left or right\n\
+follow N K             follow M ..: the targets of N's relation of kind K, 1 to 18\n\
+# TEXT                 nothing; so does an empty line\n\
+\n\
+X and Y may begin with `-`. Of a rectangle they are -1000000 to 1000000, W and H 0 to 1000000. The input\n\
+has at most 16777216 bytes, and a line 65536.\n\
+\n\
+Status 0: all lines were done. 1: a line is refused, which `refused LINE WHY` tells. 3: reading failed,\n\
+behind whole lines that were done. 4: writing failed. 5: no memory is left. 8: the input is longer than\n\
+its limit, and the whole lines inside it were done.\n";
 
 /// Whether the words are this one alone.
 pub fn is_alone(words: &[String], word: &str) -> bool
@@ -271,6 +295,9 @@ fn text_for(words: &[String]) -> (u8, &'static [u8])
     }
     if are_two(words, "check", "--help") {
         return (0, CHECK_HELP);
+    }
+    if are_two(words, "hit", "--help") {
+        return (0, HIT_HELP);
     }
     (2, USAGE)
 }

@@ -3,11 +3,13 @@
 //! definition that says otherwise is refused here.
 #![tactic(auto)]
 
+mod limits;
 pub mod make;
 mod reached;
 mod texts;
 mod wired;
 
+pub use limits::{of_commands, past_the_limit, readings};
 pub use reached::{last_entries, lost, spent, spent_later};
 pub use texts::{brief_texts, lines, spelled};
 pub use wired::{bytes, messages, names, senders};

@@ -307,6 +307,49 @@ app "Demo"
 frob
 => 1
 refused 2 Form
+~points, a rectangle and a point inside
+hit
+app "T"
+insert 0 0 panel "P"
+insert 1 0 push-button "A"
+insert 1 1 push-button "B"
+place 0 0 0 100 100
+place 1 10 10 50 50
+place 2 10 10 30 30
+place 3 20 20 30 30
+point 0 25 25
+point 0 15 15
+point 0 59 59
+point 0 100 0
+extents 3
+inside 2 40 40
+=> 0
+return l 1 1 reply=1 destination=:1.0 signature=(so) [(":1.1" "/org/a11y/atspi/accessible/3")]
+return l 1 2 reply=2 destination=:1.0 signature=(so) [(":1.1" "/org/a11y/atspi/accessible/2")]
+return l 1 3 reply=3 destination=:1.0 signature=(so) [(":1.1" "/org/a11y/atspi/accessible/1")]
+return l 1 4 reply=4 destination=:1.0 signature=(so) [(":1.1" "/org/a11y/atspi/null")]
+return l 1 5 reply=5 destination=:1.0 signature=(iiii) [(20 20 30 30)]
+return l 1 6 reply=6 destination=:1.0 signature=b [false]
+~cells beside a cell, and relations
+hit
+app "T"
+insert 0 0 table "F" columns 2
+insert 1 0 table-cell "c"
+insert 1 1 table-cell "c"
+insert 1 2 table-cell "c"
+insert 1 3 table-cell "c"
+cell 1 1 down
+cell 1 1 right
+relate 1 2 3
+follow 1 2
+follow 1 4
+cell 1 4 up
+=> 1
+cell 5
+cell none
+follow 3
+follow none
+refused 12 BadIndex
 ~an option that is none
 replay --fast
 => 2

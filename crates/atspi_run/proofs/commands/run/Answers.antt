@@ -1,14 +1,15 @@
-use Rattle.std.proofs.Common.{List, ℕ, chars, inl, inr, map, string_bytes, refl, sym}
-use Rattle.atspi_run_live.specs.Serves.{ServesApp, ServesBus, ServesReader, ServesRegistry}
+use Rattle.std.proofs.Common.{ℕ, inl, inr, map, string_bytes, refl, subst, sym, ◌∙◌}
+use Rattle.atspi_run_live.specs.Complete.{PeerDoes}
 use Rattle.atspi_run_live.specs.declared.words.Service.TheVariants as services
-use Rattle.atspi_run_replay.proofs.Completing.{ends_well}
+use Rattle.atspi_run_replay.proofs.Completing.{ends_full, ends_well}
 use Rattle.atspi_run.specs.declared.words.Task.TheVariants.{Replay, Make}
-use Rattle.atspi_run.proofs.CommandLemmas.{causes_of_check, check_is_not_2}
-use Rattle.atspi_run.proofs.LiveLemmas.{not_check_and_live, not_task_and_live, not_told_and_live, path_of}
+use Rattle.atspi_run.proofs.CommandLemmas.{causes_of_check, causes_of_hit, check_is_not_2, hit_is_not_2}
+use Rattle.atspi_run.proofs.LiveLemmas.{not_check_and_live, not_hit_and_live, not_task_and_live, not_told_and_live, path_of}
 use Rattle.atspi_run_live.proofs.OfServing.{serving_is_not_2}
 use Rattle.atspi_run_live.proofs.OfWords.{same_live}
-use Rattle.atspi_run.proofs.TaskLemmas.{may_do, not_make, not_replay, task_is_command, task_is_not_2, task_is_not_check, task_is_not_told, task_made, task_replayed}
-use Rattle.atspi_run.proofs.WordLemmas.{check_is_not_told, no_command, not_if, not_make_and_check, not_replay_and_check}
+use Rattle.atspi_run.proofs.MakeLemmas.{makes_well}
+use Rattle.atspi_run.proofs.TaskLemmas.{may_do, not_make, not_replay, task_is_command, task_is_not_2, task_is_not_check, task_is_not_hit, task_is_not_told, task_made, task_replayed}
+use Rattle.atspi_run.proofs.WordLemmas.{check_is_not_told, hit_is_not_told, no_command, not_check_and_hit, not_if, not_make_and_check, not_make_and_hit, not_replay_and_check, not_replay_and_hit}
 use Rattle.atspi_run.proofs.commands.run.Goals as goal
 
 pub do_task-requires : goal.do_task-requires
@@ -24,6 +25,7 @@ returns-in-Some g c =
       replayed = task_replayed words task _ _ _ _ _ is did;
       made = task_made words task _ _ _ _ _ is did;
       checked = λ also. absurd (task_is_not_check words task is also);
+      hit = λ also. absurd (task_is_not_hit words task is also);
       bus = λ path rounds also. absurd (not_task_and_live words task services.Bus path rounds is also);
       registry = λ path rounds also. absurd (not_task_and_live words task services.Registry path rounds is also);
       app = λ path rounds also. absurd (not_task_and_live words task services.App path rounds is also);
@@ -35,6 +37,13 @@ returns-in-Some g c =
       causes = c.do_task.ensures.causes;
       complete = λ options also unread unwritten.
           ends_well options _ _ _ _ _ _ _ _ _ _ (task_replayed words task _ _ _ _ _ is did options also) c.do_task.ensures.causes unread unwritten;
+      full = λ options also unread unwritten.
+          ends_full options _ _ _ _ _ _ _ _ _ _ (task_replayed words task _ _ _ _ _ is did options also) c.do_task.ensures.causes unread unwritten;
+      check_complete = λ also. absurd (task_is_not_check words task is also);
+      make_complete = λ count seed also unfailed.
+          makes_well count seed _ _ _ _ _ _ _ (task_made words task _ _ _ _ _ is did count seed also) c.do_task.ensures.causes unfailed;
+      bus_complete = λ path rounds also. absurd (not_task_and_live words task services.Bus path rounds is also);
+      end_complete = λ service path rounds also. absurd (not_task_and_live words task service path rounds is also);
     }
 
 pub returns-then-is_alone : goal.returns-then-is_alone
@@ -45,6 +54,7 @@ returns-then-is_alone g c =
       replayed = λ options also. absurd (not_replay_and_check words options also is);
       made = λ count seed also. absurd (not_make_and_check words count seed also is);
       checked = λ also. c.check.ensures.checked;
+      hit = λ also. absurd (not_check_and_hit words is also);
       bus = λ path rounds also. absurd (not_check_and_live words services.Bus path rounds is also);
       registry = λ path rounds also. absurd (not_check_and_live words services.Registry path rounds is also);
       app = λ path rounds also. absurd (not_check_and_live words services.App path rounds is also);
@@ -55,6 +65,37 @@ returns-then-is_alone g c =
       words = λ two command. check_is_not_2 _ _ _ _ _ _ c.check.ensures.checked two;
       causes = causes_of_check _ _ _ _ _ c.check.ensures.causes;
       complete = λ options also. absurd (not_replay_and_check words options also is);
+      full = λ options also. absurd (not_replay_and_check words options also is);
+      check_complete = λ also. c.check.ensures.complete;
+      make_complete = λ count seed also. absurd (not_make_and_check words count seed also is);
+      bus_complete = λ path rounds also. absurd (not_check_and_live words services.Bus path rounds is also);
+      end_complete = λ service path rounds also. absurd (not_check_and_live words service path rounds is also);
+    }
+
+pub returns-then-is_alone-2 : goal.returns-then-is_alone-2
+returns-then-is_alone-2 g c =
+    let words = map string_bytes c.args.words.now in
+    let is = c.is_alone-2.ensures.0 c.if-is_alone-2.true in
+    record {
+      replayed = λ options also. absurd (not_replay_and_hit words options also is);
+      made = λ count seed also. absurd (not_make_and_hit words count seed also is);
+      checked = λ also. absurd (not_check_and_hit words also is);
+      hit = λ also. c.hit.ensures.done;
+      bus = λ path rounds also. absurd (not_hit_and_live words services.Bus path rounds is also);
+      registry = λ path rounds also. absurd (not_hit_and_live words services.Registry path rounds is also);
+      app = λ path rounds also. absurd (not_hit_and_live words services.App path rounds is also);
+      read = λ path rounds also. absurd (not_hit_and_live words services.Read path rounds is also);
+      uncalled = λ none. refl;
+      told = λ text asks. absurd (hit_is_not_told words text is asks);
+      usage = λ none. absurd (none (inr (inr (inr (inr (inr is))))));
+      words = λ two command. hit_is_not_2 _ _ _ _ _ _ c.hit.ensures.done two;
+      causes = causes_of_hit _ _ _ _ _ c.hit.ensures.causes;
+      complete = λ options also. absurd (not_replay_and_hit words options also is);
+      full = λ options also. absurd (not_replay_and_hit words options also is);
+      check_complete = λ also. absurd (not_check_and_hit words also is);
+      make_complete = λ count seed also. absurd (not_make_and_hit words count seed also is);
+      bus_complete = λ path rounds also. absurd (not_hit_and_live words services.Bus path rounds is also);
+      end_complete = λ service path rounds also. absurd (not_hit_and_live words service path rounds is also);
     }
 
 pub serve-requires : goal.serve-requires
@@ -76,6 +117,7 @@ returns-in-Some-live_in g c =
       replayed = λ options also. absurd (not_task_and_live words (Replay options) live.service live.path.now live.rounds also is);
       made = λ count seed also. absurd (not_task_and_live words (Make record { count = count; seed = seed }) live.service live.path.now live.rounds also is);
       checked = λ also. absurd (not_check_and_live words live.service live.path.now live.rounds also is);
+      hit = λ also. absurd (not_hit_and_live words live.service live.path.now live.rounds also is);
       bus = λ path rounds also.
           let same = same_live words live.service services.Bus live.path.now path live.rounds rounds is also in
           rw (sym same.1, sym same.2) (did.bus same.0);
@@ -90,16 +132,26 @@ returns-in-Some-live_in g c =
           rw (sym same.1, sym same.2) (did.read same.0);
       uncalled = λ none. absurd (none (live.service, live.path.now, live.rounds, is));
       told = λ text asks. absurd (not_told_and_live words text live.service live.path.now live.rounds asks is);
-      usage = λ none. absurd (none (inr (inr (inr (inr (live.service, live.path.now, live.rounds, is))))));
+      usage = λ none. absurd (none (inr (inr (inr (inr (inl (live.service, live.path.now, live.rounds, is)))))));
       words = λ two command. serving_is_not_2 _ did.known two;
       causes = causes_of_check _ _ _ _ _ did.causes;
       complete = λ options also. absurd (not_task_and_live words (Replay options) live.service live.path.now live.rounds also is);
+      full = λ options also. absurd (not_task_and_live words (Replay options) live.service live.path.now live.rounds also is);
+      check_complete = λ also. absurd (not_check_and_live words live.service live.path.now live.rounds also is);
+      make_complete = λ count seed also. absurd (not_task_and_live words (Make record { count = count; seed = seed }) live.service live.path.now live.rounds also is);
+      bus_complete = λ path rounds also.
+          did.bus_complete (same_live words live.service services.Bus live.path.now path live.rounds rounds is also).0;
+      end_complete = λ service path rounds also no_bus no_app written done no_link part.
+          let same = same_live words live.service service live.path.now path live.rounds rounds is also in
+          did.complete (λ e. no_bus (sym same.0 ∙ e)) (λ e. no_app (sym same.0 ∙ e)) written done no_link
+          (subst (λ (n : ℕ). PeerDoes (g.H.Host.links c.serve.new.host) n (g.H.Host.calls c.serve.new.host)) (sym same.2) part);
     }
 
 pub returns : goal.returns
 returns g c =
     let words = map string_bytes c.args.words.now in
     let no_check = not_if c.is_alone.result c.if-is_alone.false c.is_alone.ensures.1 in
+    let no_hit = not_if c.is_alone-2.result c.if-is_alone-2.false c.is_alone-2.ensures.1 in
     let no_replay = not_replay words c.in_default.ensures in
     let no_make = not_make words c.in_default.ensures in
     let no_live = c.in_default-live_in.ensures in
@@ -107,6 +159,7 @@ returns g c =
       replayed = λ options also. absurd (no_replay options also);
       made = λ count seed also. absurd (no_make count seed also);
       checked = λ also. absurd (no_check also);
+      hit = λ also. absurd (no_hit also);
       bus = λ path rounds also. absurd (no_live services.Bus path rounds also);
       registry = λ path rounds also. absurd (no_live services.Registry path rounds also);
       app = λ path rounds also. absurd (no_live services.App path rounds also);
@@ -114,7 +167,12 @@ returns g c =
       uncalled = λ none. refl;
       told = c.tell.ensures.told;
       usage = λ none. c.tell.ensures.usage (λ told. none (inr (inr (inr (inl told)))));
-      words = λ two command. no_command _ words _ _ no_replay no_make no_check no_live c.tell.ensures.told two command;
+      words = λ two command. no_command _ words _ _ no_replay no_make no_check no_live no_hit c.tell.ensures.told two command;
       causes = c.tell.ensures.causes (g.S.Source.faults c.args.source.now);
       complete = λ options also. absurd (no_replay options also);
+      full = λ options also. absurd (no_replay options also);
+      check_complete = λ also. absurd (no_check also);
+      make_complete = λ count seed also. absurd (no_make count seed also);
+      bus_complete = λ path rounds also. absurd (no_live services.Bus path rounds also);
+      end_complete = λ service path rounds also. absurd (no_live service path rounds also);
     }

@@ -1,4 +1,4 @@
-use Rattle.std.proofs.Common.{◌≡◌, ◌∙◌, [], ◌∷◌, sym, ap, arith, map, string_bytes, codes}
+use Rattle.std.proofs.Common.{◌∙◌, [], ◌∷◌, sym, ap, arith, map, string_bytes, codes}
 use Rattle.atspi_run_live.proofs.OfWords.{only_three}
 use Rattle.atspi_run.proofs.WordLemmas.{asked, not_asked, not_if}
 use Rattle.atspi_run.proofs.words.asked_script.Goals as goal

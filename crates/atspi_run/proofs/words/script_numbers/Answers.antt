@@ -1,4 +1,4 @@
-use Rattle.std.proofs.Common.{◌≡◌, ◌∙◌, sym, arith}
+use Rattle.std.proofs.Common.{◌∙◌, sym, arith}
 use Rattle.atspi_run.proofs.WordLemmas.{not_if, same_script}
 use Rattle.atspi_run.proofs.words.script_numbers.Goals as goal
 
