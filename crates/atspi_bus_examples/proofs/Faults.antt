@@ -1,11 +1,15 @@
 -- The first fault of some bytes, from what stands at its place.
-use Rattle.std.proofs.Common.{append-nil, ◌≡◌, ℕ, ◌+◌, ◌≤◌, Bool, true, false, List, [], ◌∷◌, ◌++◌, length, map, drop, get_or, refl, sym, subst, ◌∙◌, arith, inl, inr}
+use Rattle.std.proofs.Common.{append-nil, ◌≡◌, ℕ, ◌+◌, ◌≤◌, Bool, true, false, List, [], ◌∷◌, ◌++◌, length, map, drop, get_or, refl, sym, subst, ◌∙◌, arith, inl, inr, ◌<◌, encode_utf8_all}
 use Rattle.std.specs.Prelude.{codes, nat_lt, ◌&&◌}
 use Rattle.std.specs.List.{prefix_len}
 use Rattle.std.proofs.lemmas.Bool.{ltb-true, and_parts}
 use Rattle.std.proofs.lemmas.List.Sorted.{IsPermutation-refl}
+use Rattle.std.proofs.lemmas.Str.{encodes-IsAscii, chars-encodes}
+use Rattle.std.specs.Str.{all_scalars}
+use Rattle.std.proofs.lemmas.Str.Ascii.{IsAscii-cons, IsAscii-nil}
+use Rattle.atspi_base.specs.Text.{HasNoZero, IsTextBytes}
 use Rattle.atspi_types.specs.SignatureFaults.{Before}
-use Rattle.atspi_match.specs.Conditions.{IsRule, key_text, value_text}
+use Rattle.atspi_match.specs.Conditions.{IsRule, IsText, key_text, value_text}
 use Rattle.atspi_match.specs.Grammar.{is_blank, is_word_byte, is_plain, Are, IsWord, plain, value_of, AreParts, Item, item_text}
 use Rattle.atspi_match.specs.Grammar.{with_commas}
 use Rattle.atspi_match.specs.RuleFaults.{IsUnknown, IsRival, ItemAt, FirstRuleFault}
@@ -124,3 +128,16 @@ item_at key value word plains = record {
   ends = tt;
   is = sym (append-nil (item_text (plain_item key value)));
 }
+
+-- a character of ASCII that is not 0 is a text, and the bytes of that are itself
+pub one_ascii : (b : ℕ) → b < 128 → HasNoZero (b ∷ []) → all_scalars (b ∷ []) ≡ true
+    → IsText (b ∷ []) × (encode_utf8_all (b ∷ []) ≡ b ∷ [])
+one_ascii b small none scalar =
+    let same : encode_utf8_all (b ∷ []) ≡ b ∷ [] = encodes-IsAscii (b ∷ []) (IsAscii-cons b [] small IsAscii-nil) in (
+      record {
+        scalars = scalar;
+        bytes = subst (λ (bs : List ℕ). IsTextBytes bs) (sym same) (record { no_zero = none; counted = omega arith });
+        spelled = chars-encodes (b ∷ []) scalar;
+      },
+      same,
+    )

@@ -7,8 +7,8 @@ ghost use Rattle.atspi_names.specs.Owners.{nobody, after_hello, after_request, a
 ghost use Rattle.atspi_bus_laws.specs.owners.Orderly.{IsOrderly};
 ghost use Rattle.atspi_bus_examples.specs.Keepings.{one_list, one_caller};
 
-/// Orderly: a bus without connections; one where a well-known name has an owner and who waits for it; and the same bus
-/// after its owner has left.
+/// Orderly: a bus without connections; one where a well-known name has an owner and who waits for it; the same bus
+/// after its owner has left; and one where somebody owns a name past the last unique one.
 pub fn kept()
     ensures nobody { IsOrderly nobody }
     ensures waiting { IsOrderly
@@ -18,6 +18,7 @@ pub fn kept()
     ensures gone { IsOrderly
         (after_gone (after_request (after_request (after_hello (after_hello nobody 5) 6) 5 (codes "a.b") 0) 6
         (codes "a.b") 0) 5) }
+    ensures past_all { IsOrderly (one_list 0 (codes ":1.4294967296") ((5, 0) ∷ [])) }
 {}
 
 /// Not orderly: a connection twice in a list; a unique name that was not given; one that another stands for too, or

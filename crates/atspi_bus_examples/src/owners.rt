@@ -7,9 +7,11 @@
 ghost use Rattle.std.specs.Prelude.{◌≡◌, ◌∷◌, [], true, false, None, Some, codes};
 ghost use Rattle.std.specs.FinMap as finmap;
 ghost use Rattle.atspi_names.specs.Queue.{allows_replacement, replaces_existing, forbids_queueing, requested, released};
-ghost use Rattle.atspi_names.specs.Queue.{stands, owner_in, owns, request_change, release_change};
+ghost use Rattle.atspi_names.specs.Queue.{stands, owner_in, owns, request_change, release_change, taken_over};
+ghost use Rattle.atspi_names.specs.Queue.{IsRequestAnswer};
 ghost use Rattle.atspi_names.specs.Owners.{nobody, list_of, unique_name, after_hello, after_request, after_release};
-ghost use Rattle.atspi_names.specs.Owners.{after_gone};
+ghost use Rattle.atspi_names.specs.Owners.{after_gone, own_name, well_known, owned_by, listed, NoneTooEarly};
+ghost use Rattle.atspi_bus_examples.specs.Keepings.{some_lists, two_callers, one_name};
 
 /// Each flag is a bit of its own, and bits that the specification does not name say nothing.
 pub fn flags()
@@ -53,6 +55,7 @@ pub fn replaced()
     ensures past_leaving { requested ((1, 5) ∷ (2, 0) ∷ (3, 0) ∷ []) 3 2 ≡ ((3, 2) ∷ (2, 0) ∷ [], 1) }
     ensures no_queue_too { requested ((1, 1) ∷ []) 3 6 ≡ ((3, 6) ∷ (1, 1) ∷ [], 1) }
     ensures change { request_change ((1, 1) ∷ []) 3 2 ≡ record { answer = 1; before = Some 1; after = Some 3 } }
+    ensures from_nobody { taken_over 1 4 [] ≡ (1, 4) ∷ [] }
     ensures not_last { (requested ((1, 1) ∷ (2, 0) ∷ []) 3 2).0 ≡ (3, 2) ∷ (2, 0) ∷ (1, 1) ∷ [] → ⊥ }
     ensures not_kept { (requested ((1, 5) ∷ []) 3 2).0 ≡ (3, 2) ∷ (1, 5) ∷ [] → ⊥ }
 {}
@@ -138,4 +141,34 @@ pub fn of_a_bus()
     ensures passed_on { list_of
         (after_gone (after_request (after_request nobody 5 (codes "a.b") 1) 6 (codes "a.b") 0) 5).lists (codes "a.b")
         ≡ (6, 0) ∷ [] }
+{}
+
+/// What an answer tells of the connection: 1 it owns the name now, and did not; 4 it did; 2 it waits now; 3 it stands
+/// in no list.
+pub fn answers()
+    ensures owner { IsRequestAnswer 1 1 [] ((1, 0) ∷ []) }
+    ensures already { IsRequestAnswer 4 1 ((1, 0) ∷ []) ((1, 1) ∷ []) }
+    ensures waits { IsRequestAnswer 2 2 ((1, 0) ∷ []) ((1, 0) ∷ (2, 0) ∷ []) }
+    ensures stays_out { IsRequestAnswer 3 2 ((1, 0) ∷ []) ((1, 0) ∷ []) }
+    ensures owner_does_not_wait { IsRequestAnswer 2 1 [] ((1, 0) ∷ []) → ⊥ }
+    ensures who_waits_is_no_owner { IsRequestAnswer 1 2 ((1, 0) ∷ []) ((1, 0) ∷ (2, 0) ∷ []) → ⊥ }
+{}
+
+/// The names that a bus has: its own, the unique names by the numbers of their connections, and the well-known ones by
+/// their bytes; and those of these that a connection owns, not those for which it waits.
+pub fn names()
+    ensures own { own_name ≡ codes "org.freedesktop.DBus" }
+    ensures well_known { well_known some_lists ≡ codes "a.b" ∷ codes "a.c" ∷ [] }
+    ensures owned { owned_by some_lists 6 ≡ codes "a.c" ∷ [] }
+    ensures listed { listed two_callers
+        ≡ codes "org.freedesktop.DBus" ∷ codes ":1.1" ∷ codes ":1.0" ∷ codes "a.b" ∷ codes "a.c" ∷ [] }
+{}
+
+/// A unique name that was not given yet is nobody's: the next one, whatever was given. Those past the last number that
+/// can be given are none of these.
+pub fn not_yet()
+    ensures next { NoneTooEarly 0 (one_name (codes ":1.0")) → ⊥ }
+    ensures given { NoneTooEarly 1 (one_name (codes ":1.0")) }
+    ensures last { NoneTooEarly 1 (one_name (codes ":1.4294967295")) → ⊥ }
+    ensures past_all { NoneTooEarly 1 (one_name (codes ":1.4294967296")) }
 {}

@@ -6,11 +6,17 @@
 
 ghost use Rattle.std.specs.Prelude.{◌≡◌, ◌∷◌, [], true, false, ℕ, List, codes, length, map};
 ghost use Rattle.std.specs.List.{AllByRecursion};
-ghost use Rattle.atspi_match.specs.Grammar.{is_blank, is_word_byte, IsWord, EndsItem, IsPart, part_text, part_value};
+ghost use Rattle.atspi_base.specs.valid_names.Names.{IsElement};
+ghost use Rattle.atspi_base.specs.declared.valid_names.elements.Form.TheVariants as forms;
+ghost use Rattle.atspi_match.specs.Conditions.{rank, key_text, type_text, bool_text, value_text, same_condition};
+ghost use Rattle.atspi_match.specs.Conditions.{IsCondition, IsNamespace, IsRule};
+ghost use Rattle.atspi_match.specs.Grammar.{is_blank, is_plain, is_word_byte, IsWord, EndsItem, IsPart, part_text};
+ghost use Rattle.atspi_match.specs.Grammar.{part_value};
 ghost use Rattle.atspi_match.specs.Grammar.{quoted, escaped, plain, spelling, value_of, item_text, item_value};
 ghost use Rattle.atspi_match.specs.Grammar.{IsItem, with_commas, AreJoined, Spells, IsRuleText};
-ghost use Rattle.atspi_match.specs.RuleFaults.{FirstRuleFault};
-ghost use Rattle.atspi_bus_examples.specs.Items.{type_signal, arg_it_s, four_quoted, four_plain};
+ghost use Rattle.atspi_match.specs.Printed.{printed};
+ghost use Rattle.atspi_match.specs.RuleFaults.{FirstRuleFault, IsNoValue};
+ghost use Rattle.atspi_bus_examples.specs.Items.{type_signal, arg_it_s, four_quoted, four_plain, one_of_each};
 
 use atspi_match::{Condition, MessageType};
 
@@ -47,6 +53,10 @@ pub fn parts()
     ensures backslash_before_apostrophe { IsPart (plain 92) (codes "'") → ⊥ }
     ensures plain_comma { IsPart (plain 44) [] → ⊥ }
     ensures plain_apostrophe { IsPart (plain 39) [] → ⊥ }
+    ensures stands_anywhere { is_plain 97 ≡ true }
+    ensures apostrophe_never { is_plain 39 ≡ false }
+    ensures comma_never { is_plain 44 ≡ false }
+    ensures backslash_not_anywhere { is_plain 92 ≡ false }
     ensures specification { value_of (quoted [] ∷ escaped ∷ quoted [] ∷ []) ≡ codes "'" }
     ensures spelled_so { spelling (quoted [] ∷ escaped ∷ quoted [] ∷ []) ≡ codes "''\\'''" }
     ensures mixed { value_of (plain 97 ∷ quoted (codes "b,c") ∷ escaped ∷ []) ≡ codes "ab,c'" }
@@ -75,6 +85,8 @@ pub fn spelled()
     ensures comma_behind { IsRuleText (codes "type=signal,") (Condition.Kind MessageType.Signal ∷ []) }
     ensures any_order { IsRuleText (codes "member=M, type=signal")
         (Condition.Kind MessageType.Signal ∷ Condition.Member (codes "M") ∷ []) }
+    ensures not_the_second { IsRuleText (codes "member=M, type=signal")
+        (Condition.Kind MessageType.Signal ∷ Condition.Member (codes "N") ∷ []) → ⊥ }
     ensures not_error { IsRuleText (codes "type=signal") (Condition.Kind MessageType.Error ∷ []) → ⊥ }
     ensures no_fault { IsRuleText (codes "type=signal") (Condition.Kind MessageType.Signal ∷ [])
         → FirstRuleFault (codes "type=signal") 0 1 → ⊥ }
@@ -133,6 +145,7 @@ pub fn not_closed()
     ensures comma_within { FirstRuleFault (codes "member='M,type=signal") 7 4 }
     ensures behind_an_item { FirstRuleFault (codes "type=signal,member='") 19 4 }
     ensures not_the_key { FirstRuleFault (codes "member='M") 0 4 → ⊥ }
+    ensures not_an_escaped_one { FirstRuleFault (codes "arg0=\\'") 6 4 → ⊥ }
 {}
 
 /// No such type: fault 5, at the value.
@@ -141,6 +154,8 @@ pub fn bad_types()
     ensures capital { FirstRuleFault (codes "type=Signal") 5 5 }
     ensures empty { FirstRuleFault (codes "type=") 5 5 }
     ensures not_six { FirstRuleFault (codes "type=signals") 5 6 → ⊥ }
+    ensures none_named_type { IsNoValue (codes "type") (codes "type") }
+    ensures not_signal { IsNoValue (codes "type") (codes "signal") → ⊥ }
 {}
 
 /// A value that its key may not have: fault 6, at the value.
@@ -165,4 +180,50 @@ pub fn long()
     ensures one_more { (bytes : List ℕ) (rule : List Condition) → Spells bytes rule → length bytes ≡ 1025
         → FirstRuleFault bytes 1024 8 }
     ensures no_text { (bytes : List ℕ) (rule : List Condition) → length bytes ≡ 1025 → IsRuleText bytes rule → ⊥ }
+{}
+
+/// The keys in their order, each with its value: 64 arguments, and 64 that are paths.
+pub fn keys()
+    ensures keys { map key_text one_of_each
+        ≡ codes "type" ∷ codes "sender" ∷ codes "interface" ∷ codes "member" ∷ codes "path" ∷ codes "path_namespace"
+        ∷ codes "destination" ∷ codes "arg0" ∷ codes "arg63" ∷ codes "arg0path" ∷ codes "arg63path"
+        ∷ codes "arg0namespace" ∷ codes "eavesdrop" ∷ [] }
+    ensures order { map rank one_of_each ≡ 0 ∷ 1 ∷ 2 ∷ 3 ∷ 4 ∷ 5 ∷ 6 ∷ 7 ∷ 70 ∷ 71 ∷ 134 ∷ 135 ∷ 136 ∷ [] }
+    ensures values { map value_text one_of_each
+        ≡ codes "signal" ∷ codes ":1.0" ∷ codes "a.b" ∷ codes "M" ∷ codes "/" ∷ codes "/p" ∷ codes "c.d" ∷ codes "x"
+        ∷ codes "y" ∷ codes "/q/" ∷ codes "z" ∷ codes "e" ∷ codes "true" ∷ [] }
+    ensures types { map type_text
+        (MessageType.Signal ∷ MessageType.MethodCall ∷ MessageType.MethodReturn ∷ MessageType.Error ∷ [])
+        ≡ codes "signal" ∷ codes "method_call" ∷ codes "method_return" ∷ codes "error" ∷ [] }
+    ensures untrue { bool_text false ≡ codes "false" }
+    ensures argument_64 { IsCondition (Condition.Arg 64 (codes "x")) → ⊥ }
+    ensures path_64 { IsCondition (Condition.ArgPath 64 (codes "x")) → ⊥ }
+    ensures last_argument { IsCondition (Condition.Arg 63 (codes "x")) }
+    ensures last_path { IsCondition (Condition.ArgPath 63 (codes "x")) }
+{}
+
+/// Rules: their keys rise, none twice, and not both `path` and `path_namespace`, though each of them beside others.
+pub fn rules()
+    ensures path { IsRule (Condition.Path (codes "/") ∷ Condition.Destination (codes "a.b") ∷ []) }
+    ensures namespace { IsRule (Condition.PathNamespace (codes "/") ∷ Condition.Destination (codes "a.b") ∷ []) }
+    ensures both { IsRule (Condition.Path (codes "/") ∷ Condition.PathNamespace (codes "/") ∷ []) → ⊥ }
+    ensures falling { IsRule (Condition.Member (codes "M") ∷ Condition.Kind MessageType.Signal ∷ []) → ⊥ }
+    ensures twice { IsRule (Condition.Kind MessageType.Signal ∷ Condition.Kind MessageType.Error ∷ []) → ⊥ }
+    ensures longest_namespace { (bytes : List ℕ) → IsElement forms.WellKnown bytes → length bytes ≡ 255
+        → IsNamespace bytes }
+    ensures too_long_a_namespace { (bytes : List ℕ) → length bytes ≡ 256 → IsNamespace bytes → ⊥ }
+{}
+
+/// Two conditions are the same where they have one key and one value, however that is kept.
+pub fn sameness()
+    ensures same { same_condition (Condition.Member (codes "M")) (Condition.Member (codes "M")) ≡ true }
+    ensures other_value { same_condition (Condition.Member (codes "M")) (Condition.Member (codes "N")) ≡ false }
+    ensures other_key { same_condition (Condition.Sender (codes "a.b")) (Condition.Destination (codes "a.b")) ≡ false }
+{}
+
+/// A rule is printed with each value in apostrophes; an apostrophe in it stands outside of them, behind a backslash.
+pub fn prints()
+    ensures two { printed (Condition.Kind MessageType.Signal ∷ Condition.Member (codes "it's") ∷ [])
+        ≡ codes "type='signal',member='it'\\''s'" }
+    ensures none { printed [] ≡ [] }
 {}

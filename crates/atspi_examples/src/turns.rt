@@ -5,7 +5,8 @@ ghost use Rattle.atspi_match.specs.routing.Queues.{Bus};
 ghost use Rattle.atspi_stream.specs.Stream.{stated};
 ghost use Rattle.atspi_trace.specs.World.{Letter};
 ghost use Rattle.atspi_world_moves.specs.Downs.{IsBegun};
-ghost use Rattle.atspi_world_moves.specs.Filled.{IsAwaited, waits_for};
+ghost use Rattle.atspi_world_moves.specs.Filled.{waits_for};
+ghost use Rattle.atspi_world_moves.specs.inner.Filled.{IsAwaited};
 ghost use Rattle.atspi_world_moves.specs.Waits.{first_down, first_up, up_turn};
 ghost use Rattle.atspi_examples.specs.Turning.{IsLong, IsStill, post};
 

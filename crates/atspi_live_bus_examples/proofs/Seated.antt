@@ -13,7 +13,7 @@ use Rattle.atspi_live_bus.specs.Asked.{Asked, joining, messages_of, taking}
 use Rattle.atspi_live_bus.specs.Cases.{two_conns}
 use Rattle.atspi_live_bus.specs.Closes.{AreShut, FollowsRead, IsLost, IsRest}
 use Rattle.atspi_live_bus.specs.Course.{AreTellings, Course, HandsOut, Steps}
-use Rattle.atspi_live_bus.specs.Rounds.{GoesOn}
+use Rattle.atspi_live_bus.specs.inner.Rounds.{GoesOn}
 use Rattle.atspi_live_bus.specs.inner.Seats.{HasSent, Waited, left, numbers_of, seats}
 use Rattle.atspi_live_bus.proofs.Worked.{is_shut, not_none, second_shut}
 use Rattle.atspi_live_bus_examples.proofs.Facts.{few_given, its_gift, some_given, zero_is}

@@ -16,7 +16,8 @@ ghost use Rattle.atspi_live_bus.specs.Cases.{one_link, two_conns};
 ghost use Rattle.atspi_live_bus.specs.Closes.{IsLost};
 ghost use Rattle.atspi_live_bus.specs.Course.{Course, start};
 ghost use Rattle.atspi_live_bus.specs.inner.Seats.{GoesOpen, HasRead, HasReadOnly, seats};
-ghost use Rattle.atspi_live_bus.specs.Turns.{Converses, Fetches, Gives, Goes, IsSeated, Remains, Seats};
+ghost use Rattle.atspi_live_bus.specs.Turns.{Converses};
+ghost use Rattle.atspi_live_bus.specs.inner.Turns.{Fetches, Gives, Goes, IsSeated, Remains, Seats};
 
 use atspi_live_host::{Call, Did};
 

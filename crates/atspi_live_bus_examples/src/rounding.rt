@@ -11,9 +11,11 @@ ghost use Rattle.atspi_live_bus.specs.Closes.{FollowsRead, FollowsWrite};
 ghost use Rattle.atspi_live_bus.specs.Course.{Course, HandsOut, IsCourse, start};
 ghost use Rattle.atspi_live_bus.specs.Due.{HasAllGiven};
 ghost use Rattle.atspi_live_bus.specs.Opened.{open_behind};
-ghost use Rattle.atspi_live_bus.specs.Rounds.{AreCloses, AreRounds, AreTurns, Does, EndsBehind, GoesOn, IsClose, IsCut};
+ghost use Rattle.atspi_live_bus.specs.Rounds.{AreRounds, AreTurns, EndsBehind, IsCut};
+ghost use Rattle.atspi_live_bus.specs.inner.Rounds.{AreCloses, Does, GoesOn, IsClose};
 ghost use Rattle.atspi_live_bus.specs.Rounds.{IsGift, IsHeard, IsNotSeated, IsPart, IsRun, IsTurn, MayBeCut, MayGive};
-ghost use Rattle.atspi_live_bus.specs.Rounds.{Moves, Wait};
+ghost use Rattle.atspi_live_bus.specs.Rounds.{Wait};
+ghost use Rattle.atspi_live_bus.specs.inner.Rounds.{Moves};
 
 use atspi_live_host::{Call, Did};
 

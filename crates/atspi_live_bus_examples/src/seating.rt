@@ -15,7 +15,7 @@ ghost use Rattle.atspi_live_bus.specs.inner.Seats.{left, number_at, numbers_of, 
 ghost use Rattle.atspi_live_bus.specs.Service.{HasNoCall, OfTold};
 ghost use Rattle.atspi_live_bus.specs.inner.Serving.{Serves, numbers};
 ghost use Rattle.atspi_live_bus.specs.Stops.{Ends};
-ghost use Rattle.atspi_live_bus.specs.Turns.{Carries, Each, IsOfOne, IsSilent, IsTold, OthersRest};
+ghost use Rattle.atspi_live_bus.specs.inner.Turns.{Carries, Each, IsOfOne, IsSilent, IsTold, OthersRest};
 
 use atspi_live_host::{Call, Did};
 

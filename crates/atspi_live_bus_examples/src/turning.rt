@@ -18,7 +18,7 @@ ghost use Rattle.atspi_live_bus.specs.Opened.{open_behind};
 ghost use Rattle.atspi_live_bus.specs.Rounds.{AreTurns, IsGift};
 ghost use Rattle.atspi_live_bus.specs.inner.Seats.{BothDo, HasSent, Hears, Leaves, MayTake, Settles, Takes, TakesCut};
 ghost use Rattle.atspi_live_bus.specs.inner.Seats.{TakesNone, TakesOne, Writes, seats};
-ghost use Rattle.atspi_live_bus.specs.Turns.{Carries};
+ghost use Rattle.atspi_live_bus.specs.inner.Turns.{Carries};
 
 use atspi_live_host::{Call, Did};
 

@@ -21,7 +21,7 @@ pub use handing::{applications_kept, queues_handed};
 pub use naming::{meanings_of_reasons, names_of_refusals, reasons_to_stop};
 pub use paces::{pace_of_lines, rounds_of_lines, stops_of_lines};
 pub use pacing::{lines_in_turn, messages_heard, rounds_begun};
-pub use reading::{inputs_read, lines_passed, sources_blamed};
+pub use reading::{inputs_read, lines_passed, sources_blamed, the_limit_of_an_input};
 pub use runs::{runs_cut_off, runs_on_links, runs_reported};
 pub use standing::{deeds_of_lines, messages_that_come, orders_of_events, texts_of_lines};
 pub use turns::{a_message_over_two_reads, pieces_of_reads};

@@ -21,6 +21,11 @@ pub fn inputs_read()
     ensures no_more { (text : List ℕ) → HasRead TooLong (Some text) (Some []) text → ⊥ }
 {}
 
+/// An input has at most 16,777,216 bytes; another limit would leave each clause that names it as it reads.
+pub fn the_limit_of_an_input()
+    ensures { INPUT_LIMIT ≡ 16777216 }
+{}
+
 /// The count of a source rises where it failed, and not for want of memory.
 pub fn sources_blamed()
     ensures failed { BlamesEnd 3 4 Failed }

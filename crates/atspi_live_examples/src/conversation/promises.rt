@@ -7,7 +7,8 @@ ghost use Rattle.atspi_message.specs.Envelope.{Envelope};
 ghost use Rattle.atspi_stream.specs.Stream.{HasFault};
 ghost use Rattle.atspi_live_conversation.specs.Sent.{AllMeet, Fits};
 ghost use Rattle.atspi_live_conversation.specs.Talking.{Attends, AttendsAll, AttendsToSpent, EndsIn, HandsOut, HasNone};
-ghost use Rattle.atspi_live_conversation.specs.Talking.{MaySend, MaySpeak, Rests, Says, SaysOne, Takes};
+ghost use Rattle.atspi_live_conversation.specs.Talking.{MaySend, MaySpeak, Rests, Says, Takes};
+ghost use Rattle.atspi_live_conversation.specs.inner.Talking.{SaysOne};
 ghost use Rattle.atspi_live_examples.specs.conversation.Logs.{IsNever, IsSpentAt, Log, Logs, Nowhere, call, fresh};
 
 /// An end takes one more message behind those before, and hands out none by that.

@@ -6,10 +6,12 @@ ghost use Rattle.atspi_live_host.specs.declared.call.Call.{Call};
 ghost use Rattle.atspi_live_host.specs.declared.call.Did.{Did};
 ghost use Rattle.atspi_types.specs.declared.fault.Fault.{Fault};
 ghost use Rattle.atspi_live_conversation.specs.Left.{IsTaken};
-ghost use Rattle.atspi_live_conversation.specs.Moved.{AllGoOn, GoesOn, Gives, Grows, Tells};
+ghost use Rattle.atspi_live_conversation.specs.Moved.{AllGoOn, GoesOn, Grows, Tells};
+ghost use Rattle.atspi_live_conversation.specs.inner.Moved.{Gives};
 ghost use Rattle.atspi_live_conversation.specs.Rounds.{Makes};
-ghost use Rattle.atspi_live_conversation.specs.Talking.{Blames, GivesPart, HearsNot, IsBroken, IsOwn, PutsFront};
-ghost use Rattle.atspi_live_conversation.specs.Talking.{PutsIfAny};
+ghost use Rattle.atspi_live_conversation.specs.Talking.{Blames, IsBroken};
+ghost use Rattle.atspi_live_conversation.specs.inner.Talking.{GivesPart, HearsNot, IsOwn, PutsFront};
+ghost use Rattle.atspi_live_conversation.specs.inner.Talking.{PutsIfAny};
 ghost use Rattle.atspi_live_conversation.specs.declared.ending.Ending.{Ending};
 
 use atspi_live_conversation::Ending;

@@ -68,3 +68,15 @@ returns-clause-empty c =
 
 pub returns-clause-not_six : goal.returns-clause-not_six
 returns-clause-not_six c = λ other. omega (arith, (only (codes "type=signals") 5 5 5 6 unknown other).1)
+
+pub returns-clause-none_named_type : goal.returns-clause-none_named_type
+returns-clause-none_named_type c = no_type (codes "type") none
+  where
+    none : (t : MessageType) → type_text t ≢ codes "type"
+    none Signal e = omega (arith, ap length e)
+    none MethodCall e = omega (arith, ap length e)
+    none MethodReturn e = omega (arith, ap length e)
+    none Error e = omega (arith, ap length e)
+
+pub returns-clause-not_signal : goal.returns-clause-not_signal
+returns-clause-not_signal c = λ none. none (Kind Signal) tt refl refl

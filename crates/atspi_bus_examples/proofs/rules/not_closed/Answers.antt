@@ -1,10 +1,14 @@
-use Rattle.std.proofs.Common.{zero, suc, [], ◌∷◌, map, length, inl, inr, refl, ap, arith}
+use Rattle.std.proofs.Common.{◌≡◌, zero, suc, [], ◌∷◌, map, length, inl, inr, refl, sym, ap, arith, encode_utf8_all}
 use Rattle.std.specs.Prelude.{codes, Contains}
-use Rattle.atspi_match.specs.Grammar.{is_quotable, quoted, plain}
+use Rattle.std.specs.Fmt.{digits}
+use Rattle.std.proofs.lemmas.List.Sorted.{IsPermutation-refl}
+use Rattle.atspi_match.specs.Conditions.{IsText, key_text}
+use Rattle.atspi_match.specs.Grammar.{is_quotable, escaped, quoted, plain, IsRuleText}
 use Rattle.atspi_match.specs.RuleFaults.{IsUnknown, IsRival, FirstRuleFault}
-use Rattle.atspi_match.specs.declared.condition.Condition.TheVariants.{Member}
+use Rattle.atspi_match.specs.declared.condition.Condition.TheVariants.{Arg, Member}
 use Rattle.atspi_match.proofs.FaultLemmas.{MayStand, open_first}
-use Rattle.atspi_bus_examples.proofs.Faults.{at_first, behind, only, key_at, are, are_plain, may_stand, signal_rule, after_signal}
+use Rattle.atspi_match.proofs.RuleLemmas.{no_wrong}
+use Rattle.atspi_bus_examples.proofs.Faults.{at_first, behind, only, one_ascii, word, key_at, are, are_plain, may_stand, signal_rule, after_signal}
 use Rattle.atspi_bus_examples.proofs.rules.not_closed.Goals as goal
 
 known : IsUnknown (codes "member") → ⊥
@@ -56,3 +60,33 @@ returns-clause-behind_an_item c =
 
 pub returns-clause-not_the_key : goal.returns-clause-not_the_key
 returns-clause-not_the_key c = λ other. omega (arith, (only (codes "member='M") 7 4 0 4 at_value other).0)
+
+-- an apostrophe behind a backslash opens nothing
+is_apostrophe : IsText (codes "'")
+is_apostrophe = (one_ascii 39 (omega arith) refl refl).0
+
+its_bytes : codes "'" ≡ encode_utf8_all (codes "'")
+its_bytes = sym (one_ascii 39 (omega arith) refl refl).1
+
+first_argument : codes "arg0" ≡ key_text (Arg 0 (codes "'"))
+unfolding digits
+first_argument = refl
+
+escaped_rule : IsRuleText (codes "arg0=\\'") (Arg 0 (codes "'") ∷ [])
+escaped_rule = record {
+  spells = record {
+    items = record { blanks = []; key = codes "arg0"; parts = escaped ∷ [] } ∷ [];
+    joined = inr refl;
+    say_rule = record {
+      conditions = Arg 0 (codes "'") ∷ [];
+      each = (record { blanks = tt; key = word (codes "arg0") refl refl; parts = (tt, tt) }, tt);
+      say = ((first_argument, its_bytes), tt);
+      order = IsPermutation-refl (Arg 0 (codes "'") ∷ []);
+      is_rule = record { rising = (tt, tt); each = ((omega arith, is_apostrophe), tt); one_path = refl };
+    };
+  };
+  short = omega arith;
+}
+
+pub returns-clause-not_an_escaped_one : goal.returns-clause-not_an_escaped_one
+returns-clause-not_an_escaped_one c = λ fault. no_wrong (codes "arg0=\\'") (Arg 0 (codes "'") ∷ []) escaped_rule 6 4 fault.there

@@ -1,7 +1,9 @@
-use Rattle.std.proofs.Common.{◌≡◌, [], ◌∷◌, inl, inr, refl, arith}
+use Rattle.std.proofs.Common.{◌≡◌, List, [], ◌∷◌, get_or, inl, inr, refl, ap, arith}
 use Rattle.std.specs.Prelude.{codes}
 use Rattle.std.proofs.lemmas.List.Sorted.{IsPermutation-refl}
+use Rattle.atspi_match.specs.Conditions.{value_text}
 use Rattle.atspi_match.specs.Grammar.{is_quotable, Item, IsItem, quoted, SayRule, IsRuleText}
+use Rattle.atspi_match.specs.declared.condition.Condition.{Condition}
 use Rattle.atspi_match.specs.declared.condition.Condition.TheVariants.{Kind, Member}
 use Rattle.atspi_match.specs.declared.condition.MessageType.TheVariants.{Signal, Error}
 use Rattle.atspi_match.proofs.RuleLemmas.{no_wrong}
@@ -63,8 +65,8 @@ returns-clause-comma_behind c = record {
   short = omega arith;
 }
 
-pub returns-clause-any_order : goal.returns-clause-any_order
-returns-clause-any_order c = record {
+any_order : IsRuleText (codes "member=M, type=signal") (Kind Signal ∷ Member (codes "M") ∷ [])
+any_order = record {
   spells = record {
     items = plain_item (codes "member") (codes "M") ∷ record signal_item { blanks = codes " " } ∷ [];
     joined = inr refl;
@@ -85,6 +87,16 @@ returns-clause-any_order c = record {
   };
   short = omega arith;
 }
+
+pub returns-clause-any_order : goal.returns-clause-any_order
+returns-clause-any_order c = any_order
+
+pub returns-clause-not_the_second : goal.returns-clause-not_the_second
+returns-clause-not_the_second c = λ other.
+    let same : (Kind Signal ∷ Member (codes "M") ∷ []) ≡ (Kind Signal ∷ Member (codes "N") ∷ []) =
+    same_rule (codes "member=M, type=signal") (Kind Signal ∷ Member (codes "M") ∷ []) (Kind Signal ∷ Member (codes "N") ∷ []) any_order other in
+    let letters : 77 ≡ 78 = ap (λ (rule : List Condition). get_or (value_text (get_or rule 1 (Kind Signal))) 0 0) same in
+    omega (arith, letters)
 
 pub returns-clause-not_error : goal.returns-clause-not_error
 returns-clause-not_error c = λ other.

@@ -6,7 +6,8 @@ use Rattle.atspi_trace.specs.World.{World}
 use Rattle.atspi_trace.specs.Causes.{Cause, Done, does, exits}
 use Rattle.atspi_trace.specs.Due.{is_lost}
 use Rattle.atspi_trace.specs.Work.{Work, doing, resting, cause, rests, next_of}
-use Rattle.atspi_world_moves.specs.Halted.{HasNext, IsAtWork, WorksOn, so_far, caused}
+use Rattle.atspi_world_moves.specs.Halted.{IsAtWork, WorksOn, so_far, caused}
+use Rattle.atspi_world_moves.specs.inner.Halted.{HasNext}
 use Rattle.atspi_examples.specs.Halting.{registry_left, two_ends}
 use Rattle.atspi_examples.proofs.halts.lines.Goals as goal
 

@@ -5,7 +5,8 @@ use Rattle.atspi_live_bus.specs.Service.{IsSpeech}
 use Rattle.atspi_live_host.specs.declared.call.Did.{Did}
 use Rattle.atspi_live_host.specs.declared.call.Did.TheVariants.{NotYet, End}
 use Rattle.atspi_live_host.specs.declared.call.Call.TheVariants.{Read}
-use Rattle.atspi_live_bus.specs.Turns.{Converses, Remains}
+use Rattle.atspi_live_bus.specs.Turns.{Converses}
+use Rattle.atspi_live_bus.specs.inner.Turns.{Remains}
 use Rattle.atspi_live_bus.proofs.Conversing.{speech_of}
 use Rattle.atspi_live_bus.proofs.Worked.{not_none}
 use Rattle.atspi_live_bus_examples.proofs.Facts.{few_read}
